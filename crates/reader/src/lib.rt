@@ -1,0 +1,10 @@
+// Reading of tables and evidence from bytes.
+mod fault;
+mod record;
+mod row;
+
+pub use fault::Fault;
+pub use record::Record;
+pub use record::split;
+pub use row::Row;
+pub use row::Step;
