@@ -1,3 +1,4 @@
 pub mod Fault
 pub mod Record
 pub mod Row
+pub mod Draft

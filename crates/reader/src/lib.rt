@@ -1,7 +1,9 @@
 // Reading of tables and evidence from bytes.
+mod draft;
 mod fault;
 mod record;
 mod row;
+mod stage;
 
 pub use fault::Fault;
 pub use record::Record;

@@ -2,7 +2,7 @@
 ghost use mathlib.Core.Path.{_≡_};
 ghost use Prim.Native.Nat.{ℕ, _+_, _-_, _<_, _≤_};
 ghost use lib.ListN.{length, getD, set, take, replicate};
-ghost use Rattle.reader.specs.Row.{blank, wayOf, errorAt, sameStep, usable, told, listed as listedOf};
+ghost use Rattle.reader.specs.Row.{blank as blankOf, wayOf, errorAt, sameStep, usable, fitting, told, listed as listedOf};
 use semantics::Way;
 use semantics::WayPartialEq;
 
@@ -36,13 +36,13 @@ pub struct Row {
 }
 
 impl Row {
-    // One state, which is the start, and nothing else.
-    pub fn resting() -> Row
-        ensures { λ r. ⌜ r ≡ blank 1 0 ⌝ }
+    // Some states and a start, and nothing else.
+    pub fn blank(states: u8, start: u8) -> Row
+        ensures { λ r. ⌜ r ≡ blankOf states start ⌝ }
     {
         Row {
-            states: 1,
-            start: 0,
+            states,
+            start,
             ways: [Way::Absent; 32],
             count: 0,
             steps: [Step { from: 0, action: 0, to: 0 }; 256],
@@ -75,6 +75,13 @@ impl Row {
         ensures { λ r. ⌜ r ≡ usable (now (self .entry)) action ⌝ }
     {
         action == 0 || self.way(action) != Way::Absent
+    }
+
+    // Whether a step goes from a state to a state, under a usable action.
+    pub fn fits(&self, step: Step) -> bool
+        ensures { λ r. ⌜ r ≡ fitting (now (self .entry)) step ⌝ }
+    {
+        step.from < self.states && step.to < self.states && self.is_usable(step.action)
     }
 
     // The steps that the row tells.
