@@ -1,3 +1,6 @@
 pub mod Records
 pub mod Rows
 pub mod Drafts
+pub mod Outcomes
+pub mod Entries
+pub mod Keeps
