@@ -4,3 +4,4 @@ pub mod Drafts
 pub mod Outcomes
 pub mod Entries
 pub mod Keeps
+pub mod Follows

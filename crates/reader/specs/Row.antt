@@ -53,8 +53,13 @@ usable r a = eqb a 0 || declared (wayOf r a)
 abbrev pub fitting : Row → Step → Bool
 fitting r s = ltb (s .from) (r .states) && (ltb (s .to) (r .states) && usable r (s .action))
 
+-- every step that the row tells is fitting
+abbrev pub StepsFit : Row → Type 0
+StepsFit r = (k : ℕ) → k < r .count → fitting r (getD (r .steps) k unused) ≡ true
+
+-- every error that the row tells is a state
+abbrev pub ErrorsFit : Row → Type 0
+ErrorsFit r = (s : ℕ) → errorAt r s ≡ true → s < r .states
+
 abbrev pub Facts : Row → Type 0
-Facts r =
-    (1 ≤ r .states) × (r .states ≤ 64) × (r .start < r .states) × (r .count ≤ 256)
-    × ((k : ℕ) → k < r .count → fitting r (getD (r .steps) k unused) ≡ true)
-    × ((s : ℕ) → errorAt r s ≡ true → s < r .states)
+Facts r = (1 ≤ r .states) × (r .states ≤ 64) × (r .start < r .states) × (r .count ≤ 256) × StepsFit r × ErrorsFit r

@@ -2,7 +2,7 @@
 ghost use mathlib.Core.Path.{_≡_};
 ghost use Prim.Native.Nat.{ℕ, _+_, _≤_};
 ghost use Rattle.reader.specs.Row.{blank};
-ghost use Rattle.reader.specs.Draft.{headed, acted, stepped, failed, ended, entered, staged, reached};
+ghost use Rattle.reader.specs.Draft.{headed, acted, stepped, failed, ended, entered, staged, reached, closed};
 ghost use Rattle.reader.specs.declared.stage.Stage.the-variants.{Head as AtHead, Actions as AtActions, Steps as AtSteps, Errors as AtErrors, Closed as AtClosed};
 use crate::fault::Fault;
 use crate::record::Record;
@@ -28,6 +28,16 @@ impl Draft {
         Draft {
             row: Row::blank(1, 0),
             stage: Stage::Head,
+        }
+    }
+
+    // Whether the end has come.
+    pub fn is_closed(&self) -> bool
+        ensures { λ r. ⌜ r ≡ closed (now (self .entry) .stage) ⌝ }
+    {
+        match self.stage {
+            Stage::Head | Stage::Actions | Stage::Steps | Stage::Errors => false,
+            Stage::Closed => true,
         }
     }
 

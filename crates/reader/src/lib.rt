@@ -4,9 +4,11 @@ mod fault;
 mod record;
 mod row;
 mod stage;
+mod table;
 
 pub use fault::Fault;
 pub use record::Record;
 pub use record::split;
 pub use row::Row;
 pub use row::Step;
+pub use table::Table;
