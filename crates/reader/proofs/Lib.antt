@@ -5,3 +5,4 @@ pub mod Outcomes
 pub mod Entries
 pub mod Keeps
 pub mod Follows
+pub mod Pairs

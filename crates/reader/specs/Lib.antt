@@ -3,3 +3,6 @@ pub mod Record
 pub mod Row
 pub mod Draft
 pub mod Table
+pub mod EvidenceFault
+pub mod Number
+pub mod Pairs

@@ -1,14 +1,20 @@
 // Reading of tables and evidence from bytes.
 mod draft;
+mod evidence;
 mod fault;
 mod listing;
+mod pair;
 mod record;
 mod row;
 mod stage;
 mod table;
 
+pub use evidence::EvidenceFault;
+pub use evidence::EvidenceFaultFromFault;
 pub use fault::Fault;
 pub use listing::Listing;
+pub use pair::Pair;
+pub use pair::read_pairs;
 pub use record::Record;
 pub use record::split;
 pub use row::Row;
