@@ -6,3 +6,4 @@ pub mod Entries
 pub mod Keeps
 pub mod Follows
 pub mod Pairs
+pub mod Runs

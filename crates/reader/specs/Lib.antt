@@ -6,3 +6,5 @@ pub mod Table
 pub mod EvidenceFault
 pub mod Number
 pub mod Pairs
+pub mod Listing
+pub mod Run

@@ -15,6 +15,7 @@ use Rattle.reader.specs.declared.evidence.EvidenceFault as faults
 use Rattle.reader.specs.declared.evidence.EvidenceFault.the-variants.{Record, Pairs}
 use Rattle.reader.specs.declared.listing.Listing.{Listing}
 use Rattle.reader.specs.declared.pair.Pair.{Pair}
+use Rattle.reader.specs.Listing.{items}
 use Rattle.reader.specs.Number.{little}
 use Rattle.reader.specs.Record.{Records, none, cut, next, records, sizeOf}
 
@@ -43,9 +44,6 @@ gather ps at (next kind body rest) =
 
 unfoldable pub pairsIn : List ℕ → Result (List Pair) faults.EvidenceFault
 pairsIn bytes = gather [] 0 (records bytes)
-
-abbrev pub items : {T : Type 0} → Listing T → List T
-items l = take (l .count) (l .places)
 
 abbrev pub outcome : Result (Listing Pair) faults.EvidenceFault → Result (List Pair) faults.EvidenceFault
 outcome (Ok l) = Ok (items l)

@@ -6,6 +6,7 @@ mod listing;
 mod pair;
 mod record;
 mod row;
+mod run;
 mod stage;
 mod table;
 
@@ -19,4 +20,8 @@ pub use record::Record;
 pub use record::split;
 pub use row::Row;
 pub use row::Step;
+pub use run::Ending;
+pub use run::Move;
+pub use run::Run;
+pub use run::read_run;
 pub use table::Table;

@@ -1,8 +1,8 @@
 // Records: a length and a kind of two bytes each, the low byte first, then a body of that length.
 ghost use mathlib.Core.Path.{_≡_};
-ghost use Prim.Native.Nat.{ℕ, _+_};
+ghost use Prim.Native.Nat.{_<_};
 ghost use lib.ListN.{length};
-ghost use Rattle.std.specs.Options.{mapped};
+ghost use Rattle.std.specs.Options.{mapped, Cases as BySome};
 ghost use Rattle.reader.specs.Record.{front};
 
 // One record, with its body where it lies.
@@ -14,7 +14,8 @@ pub struct Record<'a> {
 
 // The record in front of some bytes, and the bytes behind it; none where the bytes end before it does.
 pub fn split(bytes: &[u8]) -> Option<(Record<'_>, &[u8])>
-    ensures { λ r. ⌜ mapped (λ t. (t .0 .kind, now (t .0 .body), now (t .1))) r ≡ front (now (bytes .entry)) ⌝ }
+    ensures front { λ r. ⌜ mapped (λ t. (t .0 .kind, now (t .0 .body), now (t .1))) r ≡ front (now (bytes .entry)) ⌝ }
+    ensures short { λ r. ⌜ BySome r (Unit {0}) (λ t. length (now (t .0 .body)) < 65536) ⌝ }
 {
     let [l0, l1, k0, k1, rest @ ..] = bytes else {
         return None;

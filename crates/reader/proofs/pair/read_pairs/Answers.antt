@@ -8,8 +8,9 @@ use lib.ListN.{length}
 use Rattle.std.proofs.shelf.Lists.{length-push}
 use Rattle.std.proofs.shelf.Results.{err-from-errBy}
 use Rattle.std.proofs.shelf.Tests.{eqb-true, eqb-false, lt-ltb}
+use Rattle.reader.specs.Listing.{items}
 use Rattle.reader.specs.Record.{records, sizeOf}
-use Rattle.reader.specs.Pairs.{gather, pairsIn, items}
+use Rattle.reader.specs.Pairs.{gather, pairsIn}
 use Rattle.reader.proofs.Pairs.{pair-short, gather-done, gather-full, gather-cut, gather-refused, gather-more}
 use Rattle.reader.proofs.pair.read_pairs.Needs as need
 
@@ -25,13 +26,13 @@ returns-then-len-ge4096 c =
 pub returns-in-rest : need.returns-in-rest
 returns-in-rest c =
     let some = eqb-false (length (c .loop-rest .rest .now)) 0 (sym (c .loop-rest-test .ensures tt)) in
-    sym (gather-cut (items (c .loop-rest .pairs)) (c .loop-rest .at) (c .loop-rest .rest .now) (omega arith) (omega arith) (sym (c .in-rest .ensures tt))) ∙ c .loop-rest .inv .0
+    sym (gather-cut (items (c .loop-rest .pairs)) (c .loop-rest .at) (c .loop-rest .rest .now) (omega arith) (omega arith) (sym (c .in-rest .ensures tt .front))) ∙ c .loop-rest .inv .0
 
 pub returns-in-Break-pair : need.returns-in-Break-pair
 returns-in-Break-pair c =
     let p = err-from-errBy (c .from-residual .result) (c .from-residual .ensures .1) in
     rw (p .1, p .2) (
-      sym (gather-refused (items (c .loop-rest .pairs)) (c .loop-rest .at) (c .loop-rest .rest .now) _ _ (omega arith) (sym (c .in-Some .ensures tt)) (sym (c .in-Break-pair .ensures tt)))
+      sym (gather-refused (items (c .loop-rest .pairs)) (c .loop-rest .at) (c .loop-rest .rest .now) _ _ (omega arith) (sym (c .in-Some .ensures tt .front)) (sym (c .in-Break-pair .ensures tt)))
       ∙ c .loop-rest .inv .0
     )
 
@@ -45,7 +46,7 @@ loop-rest-again c =
     let short = pair-short (c .loop-rest .at) (c .in-Some .record .kind) (c .in-Some .record .body .now) (c .in-Continue-pair .pair) (sym (c .in-Continue-pair .ensures tt)) in
     (
       ap (λ qs. gather qs (c .loop-rest .at + sizeOf (c .in-Some .record .body .now)) (records (c .in-Some .behind .now))) more
-      ∙ sym (gather-more ps (c .loop-rest .at) (c .loop-rest .rest .now) _ (c .in-Continue-pair .pair) room (sym (c .in-Some .ensures tt)) (sym (c .in-Continue-pair .ensures tt))) ∙ c .loop-rest .inv .0,
+      ∙ sym (gather-more ps (c .loop-rest .at) (c .loop-rest .rest .now) _ (c .in-Continue-pair .pair) room (sym (c .in-Some .ensures tt .front)) (sym (c .in-Continue-pair .ensures tt))) ∙ c .loop-rest .inv .0,
       omega arith,
     )
 

@@ -1,8 +1,9 @@
 use mathlib.Core.Path.{_≡_}
 use Prim.Native.Nat.{_≤_, _*_}
 use lib.ListN.{length}
+use Rattle.reader.specs.Listing.{items}
 use Rattle.reader.specs.Record.{records}
-use Rattle.reader.specs.Pairs.{gather, pairsIn, items}
+use Rattle.reader.specs.Pairs.{gather, pairsIn}
 use Rattle.reader.proofs.pair.read_pairs.Given as given
 
 abbrev pub Inv-loop-rest : given.InvT-loop-rest

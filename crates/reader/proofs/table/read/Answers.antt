@@ -29,13 +29,13 @@ loop-rest-holds c =
 pub returns-in-rest : need.returns-in-rest
 returns-in-rest c =
     let going = sym (c .is-closed .ensures) ∙ c .loop-rest-test .taken in
-    sym (follow-stops (c .loop-rest .draft .row) (c .loop-rest .draft .stage) (c .loop-rest .at) (c .loop-rest .rest .now) going (sym (c .in-rest .ensures tt))) ∙ c .loop-rest .inv .0
+    sym (follow-stops (c .loop-rest .draft .row) (c .loop-rest .draft .stage) (c .loop-rest .at) (c .loop-rest .rest .now) going (sym (c .in-rest .ensures tt .front))) ∙ c .loop-rest .inv .0
 
 pub returns-in-Break-take : need.returns-in-Break-take
 returns-in-Break-take c =
     let p = err-from-errBy (c .from-residual .result) (c .from-residual .ensures .1) in
     let going = sym (c .is-closed .ensures) ∙ c .loop-rest-test .taken in
-    let here = records-next (c .loop-rest .rest .now) _ (sym (c .in-Some .ensures tt)) in
+    let here = records-next (c .loop-rest .rest .now) _ (sym (c .in-Some .ensures tt .front)) in
     rw (p .1, p .2) (
       sym (follow-refused (c .loop-rest .draft .row) (c .loop-rest .draft .stage) (c .loop-rest .at) (c .in-Some .record .kind) (c .in-Some .record .body .now) (records (c .in-Some .behind .now)) _ going (sym (c .in-Break-take .ensures tt)))
       ∙ sym (ap (follow (c .loop-rest .draft .row) (c .loop-rest .draft .stage) (c .loop-rest .at)) here) ∙ c .loop-rest .inv .0
@@ -56,7 +56,7 @@ add-at-in-loop-rest c =
 pub loop-rest-again : need.loop-rest-again
 loop-rest-again c =
     let going = sym (c .is-closed .ensures) ∙ c .loop-rest-test .taken in
-    let here = records-next (c .loop-rest .rest .now) _ (sym (c .in-Some .ensures tt)) in
+    let here = records-next (c .loop-rest .rest .now) _ (sym (c .in-Some .ensures tt .front)) in
     let more = adds c in
     (
       sym (follow-more (c .loop-rest .draft .row) (c .loop-rest .draft .stage) (c .loop-rest .at) (c .in-Some .record .kind) (c .in-Some .record .body .now) (records (c .in-Some .behind .now)) (c .take .last .self .row, c .take .last .self .stage) going (sym (c .in-Continue-take .ensures tt)))
