@@ -7,3 +7,4 @@ pub mod Keeps
 pub mod Follows
 pub mod Pairs
 pub mod Runs
+pub mod Parts

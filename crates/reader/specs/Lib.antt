@@ -8,3 +8,4 @@ pub mod Number
 pub mod Pairs
 pub mod Listing
 pub mod Run
+pub mod Layout
