@@ -8,3 +8,5 @@ pub mod Follows
 pub mod Pairs
 pub mod Runs
 pub mod Parts
+pub mod Contents
+pub mod Layouts
