@@ -10,3 +10,4 @@ pub mod Runs
 pub mod Parts
 pub mod Contents
 pub mod Layouts
+pub mod Breaks

@@ -220,7 +220,7 @@ table-told (next kind body rest) r at r′ p =
     go t (is-end d k b e g) q = absurd (false≢true d)
 
 -- and back: records that tell fitting things are followed to their end
-follow-closing : (r : Row) (stage : Stage) (at : ℕ) → closed stage ≡ false → due stage 5 ≡ true → follow r stage at closing ≡ Ok r
+pub follow-closing : (r : Row) (stage : Stage) (at : ℕ) → closed stage ≡ false → due stage 5 ≡ true → follow r stage at closing ≡ Ok r
 follow-closing r stage at going d =
     follow-more r stage at 5 [] none (r, Closed) going (cond-true (due stage 5) (Ok (r, Closed)) (Err (Kind at)) d) ∙ follow-done r Closed (at + 4) refl
 

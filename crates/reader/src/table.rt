@@ -1,7 +1,10 @@
 // Tables: rows with the facts that every table keeps.
 ghost use mathlib.Core.Path.{_≡_};
-ghost use Prim.Native.Nat.{ℕ, _+_, _<_, _≤_};
+ghost use Prim.Native.Nat.{_<_, _≤_};
 ghost use Rattle.reader.specs.Row.{blank, StepsFit, ErrorsFit};
+ghost use Rattle.std.specs.Results.{Cases};
+ghost use Rattle.std.specs.declared.result.Result.the-variants.{Ok};
+ghost use Rattle.reader.specs.Layout.{LaidOut, Breaks};
 ghost use Rattle.reader.specs.Table.{opened, opening};
 use crate::draft::Draft;
 use crate::fault::Fault;
@@ -35,9 +38,12 @@ impl Table {
         &self.row
     }
 
-    // Fills the table with what the bytes lay out; a refusal leaves it as it was.
+    // Fills the table with what the bytes lay out; a refusal leaves it as it was. It succeeds exactly on the
+    // bytes that lay out a table, and a refusal points at the first record that breaks the layout.
     pub fn open(&mut self, bytes: &[u8]) -> Result<(), Fault>
         ensures outcome { λ r. ⌜ (r, now (self .exit) .row) ≡ opening (now (bytes .entry)) (now (self .entry) .row) ⌝ }
+        ensures told { λ r. ⌜ Cases r (λ _. LaidOut (now (bytes .entry)) (now (self .exit) .row)) (λ f. Breaks (now (bytes .entry)) f) ⌝ }
+        ensures opens { λ r. ⌜ ((row : Row) → LaidOut (now (bytes .entry)) row → (r ≡ Ok tt) × (now (self .exit) .row ≡ row)) ⌝ }
     {
         let row = read(bytes)?;
         *self = Table { row };
