@@ -16,11 +16,11 @@ use Rattle.reader.specs.declared.row.Step.{Step}
 use Rattle.reader.specs.declared.stage.Stage.{Stage}
 use Rattle.reader.specs.declared.stage.Stage.the-variants.{Head, Actions, Steps, Errors, Closed}
 use Rattle.reader.specs.Fault.{place}
-use Rattle.reader.specs.Record.{Records, none, cut, next, records, sizeOf}
+use Rattle.reader.specs.Record.{Records, none, cut, next, records, sizeOf, followed, sizes}
 use Rattle.reader.specs.Row.{blank, wayOf, errorAt, listed, told, declared, fitting}
 use Rattle.reader.specs.Draft.{withWay, withStep, withError, wayFrom, headed, acted, stepIn, stepped, failed, ended, due, staged, taken, entered, closed, follow}
 use Rattle.reader.specs.Table.{opened}
-use Rattle.reader.specs.Layout.{Lays, followed, sizes, Begins, Stray, Stands, Breaks, closing}
+use Rattle.reader.specs.Layout.{Lays, Begins, Stray, Stands, Breaks, closing}
 use Rattle.reader.proofs.Outcomes.{err-ok, err-same}
 use Rattle.reader.proofs.Follows.{follow-none, follow-cut, follow-refused, follow-more, follow-done, follow-behind-cut, follow-behind-next}
 use Rattle.reader.proofs.Parts.{follow-closing, follow-table}
@@ -125,11 +125,11 @@ isNone none = true
 isNone cut = false
 isNone (next kind body rest) = false
 
-cut-some : cut ≡ none → ⊥
+pub cut-some : cut ≡ none → ⊥
 unfolding isNone
 cut-some e = false≢true (ap isNone e)
 
-next-some : {kind : ℕ} {body : List ℕ} {rest : Records} → next kind body rest ≡ none → ⊥
+pub next-some : {kind : ℕ} {body : List ℕ} {rest : Records} → next kind body rest ≡ none → ⊥
 unfolding isNone
 next-some e = false≢true (ap isNone e)
 

@@ -11,3 +11,5 @@ pub mod Parts
 pub mod Contents
 pub mod Layouts
 pub mod Breaks
+pub mod PairLists
+pub mod RunLists

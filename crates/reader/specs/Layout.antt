@@ -21,7 +21,7 @@ use Rattle.reader.specs.declared.fault.Fault.the-variants.{Cut, Kind, Length, 
 use Rattle.reader.specs.declared.row.Row.{Row}
 use Rattle.reader.specs.declared.row.Step.{Step}
 use Rattle.reader.specs.Fault.{place}
-use Rattle.reader.specs.Record.{Records, none, cut, next, records, sizeOf}
+use Rattle.reader.specs.Record.{Records, none, cut, next, records, followed, sizes}
 use Rattle.reader.specs.Row.{unused, declared}
 
 -- an action by its number, with its way
@@ -108,16 +108,6 @@ Lays rs r = (c : Content) × Lawful c × (rs ≡ recordsOf c) × (r ≡ rowOf c)
 
 unfoldable pub LaidOut : List ℕ → Row → Type 0
 LaidOut bytes r = Lays (records bytes) r
-
--- some whole records, each as its kind and body, and then others
-abbrev pub followed : List (ℕ × List ℕ) → Records → Records
-followed [] rest = rest
-followed (x ∷ front) rest = next (x .0) (x .1) (followed front rest)
-
--- how many bytes some records take
-abbrev pub sizes : List (ℕ × List ℕ) → ℕ
-sizes [] = 0
-sizes (x ∷ front) = sizeOf (x .1) + sizes front
 
 abbrev pub Begins : List (ℕ × List ℕ) → Type 0
 Begins front = (more : Records) × (r : Row) × Lays (followed front more) r

@@ -9,3 +9,4 @@ pub mod Pairs
 pub mod Listing
 pub mod Run
 pub mod Layout
+pub mod Evidence

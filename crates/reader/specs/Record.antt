@@ -2,6 +2,8 @@
 -- Records           bytes cut into records: nothing (none), an incomplete record (cut), or a record and what follows (next)
 -- records bytes     some bytes cut into records
 -- sizeOf body       how many bytes a record with this body takes
+-- followed xs rs    the records xs, each as its kind and its body, and then the records rs
+-- sizes xs          how many bytes the records xs take
 use mathlib.Core.Bool.{cond}
 use mathlib.Core.List.{List, [], _∷_}
 use Prim.Native.Nat.{ℕ, zero, suc, _+_, _*_}
@@ -44,3 +46,11 @@ records bytes = upTo (length bytes) bytes
 
 abbrev pub sizeOf : List ℕ → ℕ
 sizeOf body = 4 + length body
+
+abbrev pub followed : List (ℕ × List ℕ) → Records → Records
+followed [] rest = rest
+followed (x ∷ front) rest = next (x .0) (x .1) (followed front rest)
+
+abbrev pub sizes : List (ℕ × List ℕ) → ℕ
+sizes [] = 0
+sizes (x ∷ front) = sizeOf (x .1) + sizes front

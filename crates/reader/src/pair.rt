@@ -1,6 +1,10 @@
 // The pairs of a certificate.
 ghost use mathlib.Core.Path.{_≡_};
-ghost use Prim.Native.Nat.{ℕ, _+_};
+ghost use mathlib.Core.List.{List};
+ghost use Rattle.std.specs.Results.{Cases};
+ghost use Rattle.std.specs.declared.result.Result.the-variants.{Ok};
+ghost use Rattle.reader.specs.Evidence.{PairsLaid, PairsBreak};
+ghost use Rattle.reader.specs.Listing.{items};
 ghost use Rattle.reader.specs.Pairs.{pairOf, pairSized, pairsIn, outcome};
 use crate::evidence::EvidenceFault;
 use crate::evidence::EvidenceFaultFromFault;
@@ -16,9 +20,12 @@ pub struct Pair {
     pub set: u64,
 }
 
-// The pairs that some bytes list, at most 4,096, or the first fault.
+// The pairs that some bytes list, at most 4,096, or the first fault. It succeeds exactly on the bytes whose
+// records tell pairs, and a fault points at the first record that tells none.
 pub fn read_pairs(bytes: &[u8]) -> Result<Listing<Pair>, EvidenceFault>
-    ensures { λ r. ⌜ outcome r ≡ pairsIn (now (bytes .entry)) ⌝ }
+    ensures outcome { λ r. ⌜ outcome r ≡ pairsIn (now (bytes .entry)) ⌝ }
+    ensures told { λ r. ⌜ Cases r (λ l. PairsLaid (now (bytes .entry)) (items l)) (λ f. PairsBreak (now (bytes .entry)) f) ⌝ }
+    ensures reads { λ r. ⌜ ((ps : List Pair) → PairsLaid (now (bytes .entry)) ps → outcome r ≡ Ok ps) ⌝ }
 {
     let mut pairs = Listing::new(Pair { state: 0, set: 0 });
     let mut rest = bytes;

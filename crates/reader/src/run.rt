@@ -2,7 +2,11 @@
 ghost use mathlib.Core.Path.{_≡_};
 ghost use Prim.Native.Nat.{_*_, _<_, _≤_};
 ghost use lib.ListN.{length};
+ghost use mathlib.Core.List.{List};
 ghost use Rattle.std.specs.Options.{mapped};
+ghost use Rattle.std.specs.Results.{Cases};
+ghost use Rattle.std.specs.declared.result.Result.the-variants.{Ok};
+ghost use Rattle.reader.specs.Evidence.{RunLaid, RunBreaks};
 ghost use Rattle.reader.specs.Listing.{items};
 ghost use Rattle.reader.specs.Run.{endingOf, moveIn, movesIn, moved, embodied, runIn, outcome};
 use crate::evidence::EvidenceFault;
@@ -35,9 +39,12 @@ pub struct Run {
     pub moves: Listing<Move>,
 }
 
-// The run that some bytes tell, or the first fault.
+// The run that some bytes tell, or the first fault. It succeeds exactly on the bytes that are one record of a run,
+// and a fault names what keeps them from being one.
 pub fn read_run(bytes: &[u8]) -> Result<Run, EvidenceFault>
-    ensures { λ r. ⌜ outcome r ≡ runIn (now (bytes .entry)) ⌝ }
+    ensures outcome { λ r. ⌜ outcome r ≡ runIn (now (bytes .entry)) ⌝ }
+    ensures told { λ r. ⌜ Cases r (λ run. RunLaid (now (bytes .entry)) (run .ending) (items (run .moves))) (λ f. RunBreaks (now (bytes .entry)) f) ⌝ }
+    ensures reads { λ r. ⌜ ((e : Ending) (ms : List Move) → RunLaid (now (bytes .entry)) e ms → outcome r ≡ Ok (e, ms)) ⌝ }
 {
     let Some((record, behind)) = split(bytes) else {
         return Err(EvidenceFault::Record(Fault::Cut(0)));

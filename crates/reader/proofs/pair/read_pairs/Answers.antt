@@ -12,6 +12,7 @@ use Rattle.reader.specs.Listing.{items}
 use Rattle.reader.specs.Record.{records, sizeOf}
 use Rattle.reader.specs.Pairs.{gather, pairsIn}
 use Rattle.reader.proofs.Pairs.{pair-short, gather-done, gather-full, gather-cut, gather-refused, gather-more}
+use Rattle.reader.proofs.PairLists.{pairs-laid, laid-pairs, pairs-break}
 use Rattle.reader.proofs.pair.read_pairs.Needs as need
 
 pub loop-rest-holds : need.loop-rest-holds
@@ -21,20 +22,22 @@ loop-rest-holds c = (ap (λ ps. gather ps 0 (records (c .args .bytes .now))) (c 
 pub returns-then-len-ge4096 : need.returns-then-len-ge4096
 returns-then-len-ge4096 c =
     let some = eqb-false (length (c .loop-rest .rest .now)) 0 (sym (c .loop-rest-test .ensures tt)) in
-    sym (gather-full (items (c .loop-rest .pairs)) (c .loop-rest .at) (c .loop-rest .rest .now) (omega arith) (omega arith)) ∙ c .loop-rest .inv .0
+    let e = sym (gather-full (items (c .loop-rest .pairs)) (c .loop-rest .at) (c .loop-rest .rest .now) (omega arith) (omega arith)) ∙ c .loop-rest .inv .0 in
+    record { outcome = e; told = pairs-break (c .args .bytes .now) _ (sym e); reads = λ ps l. e ∙ laid-pairs (c .args .bytes .now) ps l }
 
 pub returns-in-rest : need.returns-in-rest
 returns-in-rest c =
     let some = eqb-false (length (c .loop-rest .rest .now)) 0 (sym (c .loop-rest-test .ensures tt)) in
-    sym (gather-cut (items (c .loop-rest .pairs)) (c .loop-rest .at) (c .loop-rest .rest .now) (omega arith) (omega arith) (sym (c .in-rest .ensures tt .front))) ∙ c .loop-rest .inv .0
+    let e = sym (gather-cut (items (c .loop-rest .pairs)) (c .loop-rest .at) (c .loop-rest .rest .now) (omega arith) (omega arith) (sym (c .in-rest .ensures tt .front))) ∙ c .loop-rest .inv .0 in
+    record { outcome = e; told = pairs-break (c .args .bytes .now) _ (sym e); reads = λ ps l. e ∙ laid-pairs (c .args .bytes .now) ps l }
 
 pub returns-in-Break-pair : need.returns-in-Break-pair
 returns-in-Break-pair c =
     let p = err-from-errBy (c .from-residual .result) (c .from-residual .ensures .1) in
-    rw (p .1, p .2) (
-      sym (gather-refused (items (c .loop-rest .pairs)) (c .loop-rest .at) (c .loop-rest .rest .now) _ _ (omega arith) (sym (c .in-Some .ensures tt .front)) (sym (c .in-Break-pair .ensures tt)))
-      ∙ c .loop-rest .inv .0
-    )
+    let e =
+        sym (gather-refused (items (c .loop-rest .pairs)) (c .loop-rest .at) (c .loop-rest .rest .now) _ _ (omega arith) (sym (c .in-Some .ensures tt .front)) (sym (c .in-Break-pair .ensures tt)))
+        ∙ c .loop-rest .inv .0 in
+    rw (p .1, p .2) (record { outcome = e; told = pairs-break (c .args .bytes .now) _ (sym e); reads = λ ps l. e ∙ laid-pairs (c .args .bytes .now) ps l })
 
 pub loop-rest-again : need.loop-rest-again
 loop-rest-again c =
@@ -53,4 +56,5 @@ loop-rest-again c =
 pub returns : need.returns
 returns c =
     let empty = eqb-true (length (c .loop-rest .rest .now)) 0 (sym (c .loop-rest-test .ensures tt)) in
-    sym (gather-done (items (c .loop-rest .pairs)) (c .loop-rest .at) (c .loop-rest .rest .now) empty) ∙ c .loop-rest .inv .0
+    let e = sym (gather-done (items (c .loop-rest .pairs)) (c .loop-rest .at) (c .loop-rest .rest .now) empty) ∙ c .loop-rest .inv .0 in
+    record { outcome = e; told = pairs-laid (c .args .bytes .now) _ (sym e); reads = λ ps l. e ∙ laid-pairs (c .args .bytes .now) ps l }
