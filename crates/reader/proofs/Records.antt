@@ -2,16 +2,17 @@
 use mathlib.Core.Path.{_≡_, refl, sym, ap, _∙_}
 use mathlib.Core.Bool.{Bool, true, false, cond}
 use mathlib.Core.Logic.{_⊎_, inl, inr, ⊎-elim}
-use mathlib.Core.List.{List, [], _∷_}
-use Prim.Native.Nat.{ℕ, zero, suc, _+_, _*_, _-_, _≤_, _<_}
+use mathlib.Core.List.{List, [], _∷_, _++_}
+use Prim.Native.Nat.{ℕ, zero, suc, _+_, _*_, _-_, _/_, _%_, _≤_, _<_}
 use native.Mathlib.Omega.{arith}
 use lib.Dec.{leb}
-use lib.ListN.{length, getD, take, drop, length-take, length-drop}
+use lib.ListN.{length, getD, take, drop, length-take, length-drop, length-append}
 use lib.Seq.{take-all}
 use Rattle.std.specs.declared.option.Option.{Option}
 use Rattle.std.specs.declared.option.Option.the-variants.{Some, None}
+use Rattle.std.proofs.shelf.Lists.{take-at, drop-at}
 use Rattle.std.proofs.shelf.Tests.{le-leb, lt-leb, leb-true, cases-bool}
-use Rattle.reader.specs.Record.{bodied, front, before, upTo, records, Records, none, cut, next}
+use Rattle.reader.specs.Record.{bodied, front, before, upTo, records, Records, none, cut, next, written, ReadBack}
 
 -- a record that stands in front takes at least four bytes
 bodied-shorter : (n kind : ℕ) (bytes : List ℕ) (t : ℕ × List ℕ × List ℕ) → bodied n kind bytes ≡ Some t → length (t .1) + length (t .2) ≡ length bytes
@@ -104,3 +105,16 @@ front-short (a ∷ b ∷ c ∷ d ∷ bytes) n h en l =
     let test : leb n (length bytes) ≡ false = lt-leb n (length bytes) short in
     let tested : bodied n (c + d * 256) bytes ≡ None = ap (λ b. cond b (Some (c + d * 256, take n bytes, drop n bytes)) None) test in
     sym tested ∙ ap (λ m. bodied m (c + d * 256) bytes) en
+
+-- a record that is written stands in front
+pub read-back : ReadBack
+read-back kind body bytes hk hl =
+    let n : length body % 256 + length body / 256 * 256 ≡ length body = omega arith in
+    let k : kind % 256 + kind / 256 * 256 ≡ kind = omega arith in
+    let long = length-append body bytes in
+    let fits : leb (length body) (length (body ++ bytes)) ≡ true = le-leb (length body) (length (body ++ bytes)) (omega arith) in
+    let here : front (written kind body ++ bytes) ≡ Some (kind, body, bytes) =
+        (λ i. bodied (n i) (k i) (body ++ bytes))
+        ∙ ap (λ b. cond b (Some (kind, take (length body) (body ++ bytes), drop (length body) (body ++ bytes))) None) fits
+        ∙ (λ i. Some (kind, take-at body bytes (length body) refl i, drop-at body bytes (length body) refl i)) in
+    records-next (written kind body ++ bytes) (kind, body, bytes) here

@@ -1,12 +1,15 @@
 -- front bytes       the whole record in front of some bytes, as its kind, its body and the bytes behind it, or none
 -- Records           bytes cut into records: nothing (none), an incomplete record (cut), or a record and what follows (next)
 -- records bytes     some bytes cut into records
+-- written k body    the bytes of a record of kind k
+-- ReadBack          records that are written are read back
 -- sizeOf body       how many bytes a record with this body takes
 -- followed xs rs    the records xs, each as its kind and its body, and then the records rs
 -- sizes xs          how many bytes the records xs take
+use mathlib.Core.Path.{_≡_}
 use mathlib.Core.Bool.{cond}
-use mathlib.Core.List.{List, [], _∷_}
-use Prim.Native.Nat.{ℕ, zero, suc, _+_, _*_}
+use mathlib.Core.List.{List, [], _∷_, _++_}
+use Prim.Native.Nat.{ℕ, zero, suc, _+_, _*_, _/_, _%_, _<_}
 use lib.Dec.{leb}
 use lib.ListN.{length, take, drop}
 use Rattle.std.specs.declared.option.Option.{Option}
@@ -43,6 +46,13 @@ upTo (suc n) (b ∷ bytes) = before (upTo n) (front (b ∷ bytes))
 -- each record takes at least one byte, so there are no more of them than bytes
 unfoldable pub records : List ℕ → Records
 records bytes = upTo (length bytes) bytes
+
+abbrev pub written : ℕ → List ℕ → List ℕ
+written kind body = length body % 256 ∷ length body / 256 ∷ kind % 256 ∷ kind / 256 ∷ body
+
+-- for every kind and length that two bytes can tell, whatever follows
+abbrev pub ReadBack : Type 0
+ReadBack = (kind : ℕ) (body bytes : List ℕ) → kind < 65536 → length body < 65536 → records (written kind body ++ bytes) ≡ next kind body (records bytes)
 
 abbrev pub sizeOf : List ℕ → ℕ
 sizeOf body = 4 + length body

@@ -17,6 +17,7 @@ pub use listing::Listing;
 pub use pair::Pair;
 pub use pair::read_pairs;
 pub use record::Record;
+pub use record::records_read_back;
 pub use record::split;
 pub use row::Row;
 pub use row::Step;

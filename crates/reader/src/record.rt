@@ -3,7 +3,7 @@ ghost use mathlib.Core.Path.{_≡_};
 ghost use Prim.Native.Nat.{_<_};
 ghost use lib.ListN.{length};
 ghost use Rattle.std.specs.Options.{mapped, Cases as BySome};
-ghost use Rattle.reader.specs.Record.{front};
+ghost use Rattle.reader.specs.Record.{front, ReadBack};
 
 // One record, with its body where it lies.
 #[derive(Clone, Copy)]
@@ -27,4 +27,10 @@ pub fn split(bytes: &[u8]) -> Option<(Record<'_>, &[u8])>
     }
     let (body, behind) = rest.split_at(length);
     Some((Record { kind, body }, behind))
+}
+
+// A theorem: records that are written one behind the other are cut apart again as they were written.
+pub fn records_read_back()
+    ensures { λ _. ⌜ ReadBack ⌝ }
+{
 }
