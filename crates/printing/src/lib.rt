@@ -1,0 +1,7 @@
+// The text of a table.
+mod lines;
+mod text;
+
+pub use text::refused_text;
+pub use text::row_text;
+pub use text::table_text;

@@ -1,0 +1,54 @@
+// The text of a row, of a refusal, and of the bytes of a table.
+ghost use mathlib.Core.Path.{_≡_};
+ghost use mathlib.Core.List.{_++_};
+ghost use Rattle.std.specs.Of.String.{string-bytes};
+ghost use Rattle.std.specs.Vec.{made};
+ghost use Rattle.printing.specs.Text.{rowText, refusedText, tableText};
+use crate::lines::add_actions;
+use crate::lines::add_errors;
+use crate::lines::add_head;
+use crate::lines::add_steps;
+use reader::Row;
+use reader::Table;
+use std::alloc::AllocError;
+use std::alloc::Global;
+use std::fmt;
+
+fn add_row(out: &mut String, row: &Row) -> fmt::Result
+    ensures { λ r. ⌜ made r (λ _. string-bytes (now (out .exit)) ≡ string-bytes (now (out .entry)) ++ rowText (now (row .entry))) ⌝ }
+{
+    add_head(out, row)?;
+    add_actions(out, row)?;
+    add_steps(out, row)?;
+    add_errors(out, row)?;
+    write!(out, "end\n")
+}
+
+// The lines of a row.
+pub fn row_text(heap: Global, row: &Row) -> Result<String, AllocError>
+    ensures { λ r. ⌜ made r (λ s. string-bytes s ≡ rowText (now (row .entry))) ⌝ }
+{
+    let mut out = String::new(heap);
+    match add_row(&mut out, row) {
+        Ok(()) => Ok(out),
+        Err(_) => Err(AllocError),
+    }
+}
+
+// The line of a refusal.
+pub fn refused_text(heap: Global, number: u8, place: u32) -> Result<String, AllocError>
+    ensures { λ r. ⌜ made r (λ s. string-bytes s ≡ refusedText number place) ⌝ }
+{
+    format!(heap, "refused {number} at {place}\n")
+}
+
+// What some bytes lay out: the lines of their table, or the line of their refusal.
+pub fn table_text(heap: Global, bytes: &[u8]) -> Result<String, AllocError>
+    ensures { λ r. ⌜ made r (λ s. string-bytes s ≡ tableText (now (bytes .entry))) ⌝ }
+{
+    let mut table = Table::resting();
+    match table.open(bytes) {
+        Ok(()) => row_text(heap, table.row()),
+        Err(fault) => refused_text(heap, fault.number(), fault.place()),
+    }
+}
