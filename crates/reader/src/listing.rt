@@ -26,19 +26,19 @@ impl<T: Copy> Listing<T> {
         }
     }
 
-    // How many things are listed.
-    pub fn len(&self) -> usize
-        ensures { λ r. ⌜ r ≡ length (take (now (self .entry) .count) (now (self .entry) .places)) ⌝ }
-    {
-        self.count
-    }
-
     // What is listed, in its order.
     pub fn as_slice(&self) -> &[T]
         ensures { λ r. ⌜ now r ≡ take (now (self .entry) .count) (now (self .entry) .places) ⌝ }
     {
         let all = &self.places[..];
         &all[0..self.count]
+    }
+
+    // How many things are listed.
+    pub fn len(&self) -> usize
+        ensures { λ r. ⌜ r ≡ length (take (now (self .entry) .count) (now (self .entry) .places)) ⌝ }
+    {
+        self.as_slice().len()
     }
 
     // Lists one thing more, or answers false where 4,096 are listed.
