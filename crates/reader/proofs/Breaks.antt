@@ -99,7 +99,7 @@ module _ (r : Row) (at : ℕ) where
 data Reach : Row → Stage → ℕ → List (ℕ × List ℕ) → Row → Stage → Type 0 where
   here : (r : Row) (stage : Stage) (at : ℕ) → Reach r stage at [] r stage
   on : {r : Row} {stage : Stage} {at kind : ℕ} {body : List ℕ} {front : List (ℕ × List ℕ)} {r′ : Row} {stage′ : Stage} (t : Row × Stage)
-    → closed stage ≡ false → entered r stage at kind body ≡ Ok t → Reach (t .0) (t .1) (at + sizeOf body) front r′ stage′ → Reach r stage at ((kind, body) ∷ front) r′ stage′
+      → closed stage ≡ false → entered r stage at kind body ≡ Ok t → Reach (t .0) (t .1) (at + sizeOf body) front r′ stage′ → Reach r stage at ((kind, body) ∷ front) r′ stage′
 
 reach-follow : {r : Row} {stage : Stage} {at : ℕ} {front : List (ℕ × List ℕ)} {r′ : Row} {stage′ : Stage} → Reach r stage at front r′ stage′ → (more : Records) → follow r stage at (followed front more) ≡ follow r′ stage′ (at + sizes front) more
 reach-follow (here r stage at) more = let e : at ≡ at + 0 = omega arith in ap (λ a. follow r stage a more) e

@@ -44,8 +44,8 @@ Fresh r a = declared (wayOf r (a .action)) ≡ false
 fresh-after : (r : Row) (a b : Action) → length (r .ways) ≡ 32 → Sized a → Fresh (withWay r (a .action) (a .way)) b → (b .action ≡ a .action → ⊥) × Fresh r b
 fresh-after r a b len ok f =
     let apart : b .action ≡ a .action → ⊥ = λ e.
-        let new : wayOf (withWay r (a .action) (a .way)) (b .action) ≡ a .way = ap (wayOf (withWay r (a .action) (a .way))) e ∙ way-new r (a .action) (a .way) len (ok .0) (ok .1) in
-        true≢false (sym (ok .2) ∙ sym (ap declared new) ∙ f) in
+    let new : wayOf (withWay r (a .action) (a .way)) (b .action) ≡ a .way = ap (wayOf (withWay r (a .action) (a .way))) e ∙ way-new r (a .action) (a .way) len (ok .0) (ok .1) in
+    true≢false (sym (ok .2) ∙ sym (ap declared new) ∙ f) in
     (apart, sym (ap declared (way-other r (a .action) (b .action) (a .way) (ok .0) apart)) ∙ f)
 
 fresh-before : (r : Row) (a b : Action) → Sized a → (b .action ≡ a .action → ⊥) → Fresh r b → Fresh (withWay r (a .action) (a .way)) b
@@ -60,11 +60,10 @@ ways-once (a ∷ xs) r len fit =
 
 pub once-ways : (xs : List Action) (r : Row) → All Sized xs → Once (λ a. a .action) xs → All (Fresh r) xs → WaysFit r xs
 once-ways [] r ok once fresh = tt
-once-ways (a ∷ xs) r ok once fresh =
-    (
-      (ok .0 .0, ok .0 .1, ok .0 .2, fresh .0),
-      once-ways xs (withWay r (a .action) (a .way)) (ok .1) (once .1) (all-zip (λ b p q. fresh-before r a b (ok .0) p q) xs (once .0) (fresh .1)),
-    )
+once-ways (a ∷ xs) r ok once fresh = (
+  (ok .0 .0, ok .0 .1, ok .0 .2, fresh .0),
+  once-ways xs (withWay r (a .action) (a .way)) (ok .1) (once .1) (all-zip (λ b p q. fresh-before r a b (ok .0) p q) xs (once .0) (fresh .1)),
+)
 
 -- the way of a number in a list of actions, or else the one given
 abbrev wayOr : Way → ℕ → List Action → Way
@@ -85,10 +84,10 @@ all-ways n (a ∷ xs) r len ok once =
     all-ways n xs (withWay r (a .action) (a .way)) (length-set (r .ways) (a .action - 1) (a .way) ∙ len) (ok .1) (once .1)
     ∙ ⊎-elim
     (λ (e : n ≡ a .action).
-        let new : wayOf (withWay r (a .action) (a .way)) n ≡ a .way = ap (wayOf (withWay r (a .action) (a .way))) e ∙ way-new r (a .action) (a .way) len (ok .0 .0) (ok .0 .1) in
-        ap (λ d. wayOr d n xs) new ∙ way-or-not (a .way) n xs (all-map (λ b p q. p (q ∙ e)) xs (once .0)) ∙ sym (cond-true (eqb n (a .action)) (a .way) (wayOr (wayOf r n) n xs) (eq-eqb n (a .action) e)))
+    let new : wayOf (withWay r (a .action) (a .way)) n ≡ a .way = ap (wayOf (withWay r (a .action) (a .way))) e ∙ way-new r (a .action) (a .way) len (ok .0 .0) (ok .0 .1) in
+    ap (λ d. wayOr d n xs) new ∙ way-or-not (a .way) n xs (all-map (λ b p q. p (q ∙ e)) xs (once .0)) ∙ sym (cond-true (eqb n (a .action)) (a .way) (wayOr (wayOf r n) n xs) (eq-eqb n (a .action) e)))
     (λ (ne : n ≡ a .action → ⊥).
-        ap (λ d. wayOr d n xs) (way-other r (a .action) n (a .way) (ok .0 .0) ne) ∙ sym (cond-false (eqb n (a .action)) (a .way) (wayOr (wayOf r n) n xs) (ne-eqb n (a .action) ne)))
+    ap (λ d. wayOr d n xs) (way-other r (a .action) n (a .way) (ok .0 .0) ne) ∙ sym (cond-false (eqb n (a .action)) (a .way) (wayOr (wayOf r n) n xs) (ne-eqb n (a .action) ne)))
     (cases-eq n (a .action))
 
 -- the ways of no action at all
@@ -99,6 +98,7 @@ way-blank n s k = go (leb 1 k && leb k 32)
     same zero i = refl
     same (suc m) zero = refl
     same (suc m) (suc i) = same m i
+
     go : (b : Bool) → cond b (getD (replicate 32 Absent) (k - 1) Absent) Absent ≡ Absent
     go true = same 32 (k - 1)
     go false = refl
@@ -171,8 +171,7 @@ steps-once [] r h fit = (tt, tt, tt, omega arith)
 steps-once (s ∷ xs) r h fit =
     let room = fit .0 .2 in
     let more = steps-once xs (withStep r s) (held-step r s h room) (fit .1) in
-    let few = more .3 in
-    (
+    let few = more .3 in (
       (fit .0 .0, more .0),
       (all-map (λ t u. untold-after r s t h room u .0) xs (more .2), more .1),
       (fit .0 .1, all-map (λ t u. untold-after r s t h room u .1) xs (more .2)),
@@ -182,8 +181,7 @@ steps-once (s ∷ xs) r h fit =
 pub once-steps : (xs : List Step) (r : Row) → Held r → All (λ s. fitting r s ≡ true) xs → Once (λ s. s) xs → All (Untold r) xs → r .count + length xs ≤ 256 → EachStepFits r xs
 once-steps [] r h ok once new few = tt
 once-steps (s ∷ xs) r h ok once new few =
-    let room : r .count < 256 = omega arith in
-    (
+    let room : r .count < 256 = omega arith in (
       (ok .0, new .0, room),
       once-steps xs (withStep r s) (held-step r s h room) (ok .1) (once .1) (all-zip (λ t p q. untold-before r s t h room p q) xs (once .0) (new .1)) (omega arith),
     )
@@ -203,13 +201,12 @@ steps-placed [] ys r ec es few =
 steps-placed (s ∷ xs) ys r ec es few =
     let one : 256 - length ys ≡ suc (256 - length (ys ++ s ∷ [])) = let e = length-append ys (s ∷ []) in omega arith in
     let place : set (r .steps) (r .count) s ≡ (ys ++ s ∷ []) ++ replicate (256 - length (ys ++ s ∷ [])) unused =
-        ap (λ n. set (r .steps) n s) ec ∙ ap (λ zs. set zs (length ys) s) (es ∙ ap (λ n. ys ++ replicate n unused) one)
-        ∙ set-at ys unused (replicate (256 - length (ys ++ s ∷ [])) unused) s (length ys) refl
-        ∙ sym (append-assoc ys (s ∷ []) (replicate (256 - length (ys ++ s ∷ [])) unused)) in
+    ap (λ n. set (r .steps) n s) ec ∙ ap (λ zs. set zs (length ys) s) (es ∙ ap (λ n. ys ++ replicate n unused) one)
+    ∙ set-at ys unused (replicate (256 - length (ys ++ s ∷ [])) unused) s (length ys) refl
+    ∙ sym (append-assoc ys (s ∷ []) (replicate (256 - length (ys ++ s ∷ [])) unused)) in
     let grown : length (ys ++ s ∷ []) ≡ length ys + 1 = length-append ys (s ∷ []) ∙ refl in
     let more = steps-placed xs (ys ++ s ∷ []) (withStep r s) (ap (λ n. n + 1) ec ∙ sym grown) place (omega arith) in
-    let total : length (ys ++ s ∷ []) + length xs ≡ length ys + suc (length xs) = omega arith in
-    (
+    let total : length (ys ++ s ∷ []) + length xs ≡ length ys + suc (length xs) = omega arith in (
       more .0 ∙ (λ i. append-assoc ys (s ∷ []) xs i ++ replicate (256 - total i) unused),
       more .1 ∙ total,
     )
@@ -239,8 +236,7 @@ unfailed-after r s t h l u =
 pub errors-once : (xs : List ℕ) (r : Row) → Wide r → EachErrorFits r xs → All (λ s. s < r .states) xs × Once (λ s. s) xs × All (Unfailed r) xs
 errors-once [] r h fit = (tt, tt, tt)
 errors-once (s ∷ xs) r h fit =
-    let more = errors-once xs (withError r s) (wide-error r s h) (fit .1) in
-    (
+    let more = errors-once xs (withError r s) (wide-error r s h) (fit .1) in (
       (fit .0 .0, more .0),
       (all-map (λ t u. unfailed-after r s t h (fit .0 .0) u .0) xs (more .2), more .1),
       (fit .0 .1, all-map (λ t u. unfailed-after r s t h (fit .0 .0) u .1) xs (more .2)),

@@ -100,27 +100,27 @@ entry r stage at kind body t p =
     let rest1 = cond (eqb kind 2) (staged Actions (acted r at body)) rest2 in
     ⊎-elim
     (λ (e : kind ≡ 1).
-        ⊎-elim
-        (λ h. head-entry r stage at kind t body (h .0) e (sym (cond-true (eqb kind 1) (staged Actions (headed at body)) rest1 (eq-eqb kind 1 e)) ∙ c .1))
-        (λ h. absurd (omega arith))
-        (due-cases stage kind (c .0)))
+    ⊎-elim
+    (λ h. head-entry r stage at kind t body (h .0) e (sym (cond-true (eqb kind 1) (staged Actions (headed at body)) rest1 (eq-eqb kind 1 e)) ∙ c .1))
+    (λ h. absurd (omega arith))
+    (due-cases stage kind (c .0)))
     (λ (n1 : kind ≡ 1 → ⊥).
-        let p1 = sym (cond-false (eqb kind 1) (staged Actions (headed at body)) rest1 (ne-eqb kind 1 n1)) ∙ c .1 in
-        ⊎-elim
-        (λ (e : kind ≡ 2). action-entry r stage at kind t body (at-kind 2 e) e (sym (cond-true (eqb kind 2) (staged Actions (acted r at body)) rest2 (eq-eqb kind 2 e)) ∙ p1))
-        (λ (n2 : kind ≡ 2 → ⊥).
-            let p2 = sym (cond-false (eqb kind 2) (staged Actions (acted r at body)) rest2 (ne-eqb kind 2 n2)) ∙ p1 in
-            let rest3 = cond (eqb kind 4) (staged Errors (failed r at body)) (staged Closed (ended r at body)) in
-            ⊎-elim
-            (λ (e : kind ≡ 3). step-entry r stage at kind t body (at-kind 3 e) e (sym (cond-true (eqb kind 3) (staged Steps (stepped r at body)) rest3 (eq-eqb kind 3 e)) ∙ p2))
-            (λ (n3 : kind ≡ 3 → ⊥).
-                let p3 = sym (cond-false (eqb kind 3) (staged Steps (stepped r at body)) rest3 (ne-eqb kind 3 n3)) ∙ p2 in
-                ⊎-elim
-                (λ (e : kind ≡ 4). error-entry r stage at kind t body (at-kind 4 e) e (sym (cond-true (eqb kind 4) (staged Errors (failed r at body)) (staged Closed (ended r at body)) (eq-eqb kind 4 e)) ∙ p3))
-                (λ (n4 : kind ≡ 4 → ⊥).
-                    let five : kind ≡ 5 = ⊎-elim (λ h. absurd (n1 (h .1))) (λ h. omega arith) (due-cases stage kind (c .0)) in
-                    end-entry r stage at kind t body (at-kind 5 five) five (sym (cond-false (eqb kind 4) (staged Errors (failed r at body)) (staged Closed (ended r at body)) (ne-eqb kind 4 n4)) ∙ p3))
-                (cases-eq kind 4))
-            (cases-eq kind 3))
-        (cases-eq kind 2))
+    let p1 = sym (cond-false (eqb kind 1) (staged Actions (headed at body)) rest1 (ne-eqb kind 1 n1)) ∙ c .1 in
+    ⊎-elim
+    (λ (e : kind ≡ 2). action-entry r stage at kind t body (at-kind 2 e) e (sym (cond-true (eqb kind 2) (staged Actions (acted r at body)) rest2 (eq-eqb kind 2 e)) ∙ p1))
+    (λ (n2 : kind ≡ 2 → ⊥).
+    let p2 = sym (cond-false (eqb kind 2) (staged Actions (acted r at body)) rest2 (ne-eqb kind 2 n2)) ∙ p1 in
+    let rest3 = cond (eqb kind 4) (staged Errors (failed r at body)) (staged Closed (ended r at body)) in
+    ⊎-elim
+    (λ (e : kind ≡ 3). step-entry r stage at kind t body (at-kind 3 e) e (sym (cond-true (eqb kind 3) (staged Steps (stepped r at body)) rest3 (eq-eqb kind 3 e)) ∙ p2))
+    (λ (n3 : kind ≡ 3 → ⊥).
+    let p3 = sym (cond-false (eqb kind 3) (staged Steps (stepped r at body)) rest3 (ne-eqb kind 3 n3)) ∙ p2 in
+    ⊎-elim
+    (λ (e : kind ≡ 4). error-entry r stage at kind t body (at-kind 4 e) e (sym (cond-true (eqb kind 4) (staged Errors (failed r at body)) (staged Closed (ended r at body)) (eq-eqb kind 4 e)) ∙ p3))
+    (λ (n4 : kind ≡ 4 → ⊥).
+    let five : kind ≡ 5 = ⊎-elim (λ h. absurd (n1 (h .1))) (λ h. omega arith) (due-cases stage kind (c .0)) in
+    end-entry r stage at kind t body (at-kind 5 five) five (sym (cond-false (eqb kind 4) (staged Errors (failed r at body)) (staged Closed (ended r at body)) (ne-eqb kind 4 n4)) ∙ p3))
+    (cases-eq kind 4))
+    (cases-eq kind 3))
+    (cases-eq kind 2))
     (cases-eq kind 1)

@@ -37,6 +37,9 @@ pub keeps-blank : (n s : ℕ) → 1 ≤ n → n ≤ 64 → s < n → Keeps (blan
 keeps-blank n s l u h =
     ((refl, refl, refl), (l, u, h, omega arith, (λ k b. absurd (omega arith)), (λ q e. absurd (both-ways _ (getD-alike 64 q false) e))))
 
+pub kept-blank : (r : Row) (n s : ℕ) → r ≡ blank n s → 1 ≤ n → n ≤ 64 → s < n → Keeps r
+kept-blank r n s e l u h = subst Keeps (sym e) (keeps-blank n s l u h)
+
 -- the way of the action that a row is given, and of the others
 pub way-new : (r : Row) (a : ℕ) (w : Way) → length (r .ways) ≡ 32 → 1 ≤ a → a ≤ 32 → wayOf (withWay r a w) a ≡ w
 way-new r a w e l u = way-inside (withWay r a w) a l u ∙ getD-set-same (r .ways) (a - 1) w Absent (omega arith)
@@ -45,11 +48,11 @@ pub way-other : (r : Row) (a b : ℕ) (w : Way) → 1 ≤ a → b ≢ a → wayO
 way-other r a b w l ne =
     ⊎-elim
     (λ (t : (leb 1 b && leb b 32) ≡ true).
-        let p = and-parts (leb 1 b) (leb b 32) t in
-        let low = leb-true 1 b (p .0) in
-        let high = leb-true b 32 (p .1) in
-        let apart : (b - 1) ≢ (a - 1) = λ e. ne (omega arith) in
-        way-inside (withWay r a w) b low high ∙ getD-set-other (r .ways) (a - 1) (b - 1) w Absent apart ∙ sym (way-inside r b low high))
+    let p = and-parts (leb 1 b) (leb b 32) t in
+    let low = leb-true 1 b (p .0) in
+    let high = leb-true b 32 (p .1) in
+    let apart : (b - 1) ≢ (a - 1) = λ e. ne (omega arith) in
+    way-inside (withWay r a w) b low high ∙ getD-set-other (r .ways) (a - 1) (b - 1) w Absent apart ∙ sym (way-inside r b low high))
     (λ (t : (leb 1 b && leb b 32) ≡ false). cond-false _ _ _ t ∙ sym (cond-false _ _ _ t))
     (cases-bool (leb 1 b && leb b 32))
 
@@ -58,11 +61,11 @@ usable-more r a b w e l u dw h =
     ⊎-elim
     (λ z. or-left (eqb b 0) _ z)
     (λ d.
-        or-right (eqb b 0) _
-        (⊎-elim
-        (λ (same : b ≡ a). ap (λ x. declared (wayOf (withWay r a w) x)) same ∙ ap declared (way-new r a w e l u) ∙ dw)
-        (λ (other : b ≡ a → ⊥). ap declared (way-other r a b w l other) ∙ d)
-        (cases-eq b a)))
+    or-right (eqb b 0) _
+    (⊎-elim
+    (λ (same : b ≡ a). ap (λ x. declared (wayOf (withWay r a w) x)) same ∙ ap declared (way-new r a w e l u) ∙ dw)
+    (λ (other : b ≡ a → ⊥). ap declared (way-other r a b w l other) ∙ d)
+    (cases-eq b a)))
     (or-cases (eqb b 0) (declared (wayOf r b)) h)
 
 fitting-more : (r : Row) (a : ℕ) (w : Way) (s : Step) → length (r .ways) ≡ 32 → 1 ≤ a → a ≤ 32 → declared w ≡ true → fitting r s ≡ true → fitting (withWay r a w) s ≡ true
@@ -72,18 +75,16 @@ fitting-more r a w s e l u dw h =
     and-from _ _ (p .0) (and-from _ _ (q .0) (usable-more r a (s .action) w e l u dw (q .1)))
 
 keeps-way : (r : Row) (a : ℕ) (w : Way) → 1 ≤ a → a ≤ 32 → declared w ≡ true → Keeps r → Keeps (withWay r a w)
-keeps-way r a w l u dw k =
-    (
-      (length-set (r .ways) (a - 1) w ∙ k .0 .0, k .0 .1, k .0 .2),
-      (k .1 .0, k .1 .1, k .1 .2, k .1 .3, (λ i b. fitting-more r a w (getD (r .steps) i unused) (k .0 .0) l u dw (k .1 .4 i b)), k .1 .5),
-    )
+keeps-way r a w l u dw k = (
+  (length-set (r .ways) (a - 1) w ∙ k .0 .0, k .0 .1, k .0 .2),
+  (k .1 .0, k .1 .1, k .1 .2, k .1 .3, (λ i b. fitting-more r a w (getD (r .steps) i unused) (k .0 .0) l u dw (k .1 .4 i b)), k .1 .5),
+)
 
 keeps-step : (r : Row) (s : Step) → fitting r s ≡ true → r .count < 256 → Keeps r → Keeps (withStep r s)
-keeps-step r s f room k =
-    (
-      (k .0 .0, length-set (r .steps) (r .count) s ∙ k .0 .1, k .0 .2),
-      (k .1 .0, k .1 .1, k .1 .2, omega arith, each, k .1 .5),
-    )
+keeps-step r s f room k = (
+  (k .0 .0, length-set (r .steps) (r .count) s ∙ k .0 .1, k .0 .2),
+  (k .1 .0, k .1 .1, k .1 .2, omega arith, each, k .1 .5),
+)
   where
     each : (i : ℕ) → i < r .count + 1 → fitting r (getD (set (r .steps) (r .count) s) i unused) ≡ true
     each i b =
@@ -93,11 +94,10 @@ keeps-step r s f room k =
         (cases-eq i (r .count))
 
 keeps-error : (r : Row) (s : ℕ) → s < r .states → Keeps r → Keeps (withError r s)
-keeps-error r s h k =
-    (
-      (k .0 .0, k .0 .1, length-set (r .errors) s true ∙ k .0 .2),
-      (k .1 .0, k .1 .1, k .1 .2, k .1 .3, k .1 .4, each),
-    )
+keeps-error r s h k = (
+  (k .0 .0, k .0 .1, length-set (r .errors) s true ∙ k .0 .2),
+  (k .1 .0, k .1 .1, k .1 .2, k .1 .3, k .1 .4, each),
+)
   where
     each : (q : ℕ) → getD (set (r .errors) s true) q false ≡ true → q < r .states
     each q e =

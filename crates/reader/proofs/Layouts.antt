@@ -85,16 +85,16 @@ module _ (n s : ℕ) (xs : List Action) (ok : All Sized xs) (once : Once (λ a. 
       let within : All (λ e. e < r2 .states) es = subst (λ m. All (λ e. e < m) es) (sym states-are) fit in
       let wide : (length (r2 .errors) ≡ 64) × (r2 .states ≤ 64) = (ap length errors-are, subst (λ m. m ≤ 64) (sym states-are) small) in
       let ways-are : r1 .ways ≡ tabled 32 (λ i. wayIn (suc i) xs) =
-          ext-getD Absent (r1 .ways) (tabled 32 (λ i. wayIn (suc i) xs)) (k1 .4 ∙ sym (length-tabled 32 (λ i. wayIn (suc i) xs))) (λ i h.
-          let low : i < 32 = subst (λ m. i < m) (k1 .4) h in
-          let back : suc i - 1 ≡ i = omega arith in
-          sym (ap (λ j. getD (r1 .ways) j Absent) back) ∙ sym (way-inside r1 (suc i) (omega arith) (omega arith)) ∙ ways-in n s (suc i) xs ok once
-          ∙ sym (getD-tabled 32 i (λ j. wayIn (suc j) xs) Absent low)) in
+      ext-getD Absent (r1 .ways) (tabled 32 (λ i. wayIn (suc i) xs)) (k1 .4 ∙ sym (length-tabled 32 (λ i. wayIn (suc i) xs))) (λ i h.
+      let low : i < 32 = subst (λ m. i < m) (k1 .4) h in
+      let back : suc i - 1 ≡ i = omega arith in
+      sym (ap (λ j. getD (r1 .ways) j Absent) back) ∙ sym (way-inside r1 (suc i) (omega arith) (omega arith)) ∙ ways-in n s (suc i) xs ok once
+      ∙ sym (getD-tabled 32 i (λ j. wayIn (suc j) xs) Absent low)) in
       let failing : allErrors r2 es .errors ≡ tabled 64 (λ q. member q es) =
-          ext-getD false (allErrors r2 es .errors) (tabled 64 (λ q. member q es)) (k3 .4 ∙ ap length errors-are ∙ sym (length-tabled 64 (λ q. member q es))) (λ q h.
-          let low : q < 64 = subst (λ m. q < m) (k3 .4 ∙ ap length errors-are) h in
-          errors-in q es r2 wide within ∙ ap (λ b. b || member q es) (ap (λ l. getD l q false) errors-are ∙ none-failed 64 q)
-          ∙ sym (getD-tabled 64 q (λ p. member p es) false low)) in
+      ext-getD false (allErrors r2 es .errors) (tabled 64 (λ q. member q es)) (k3 .4 ∙ ap length errors-are ∙ sym (length-tabled 64 (λ q. member q es))) (λ q h.
+      let low : q < 64 = subst (λ m. q < m) (k3 .4 ∙ ap length errors-are) h in
+      errors-in q es r2 wide within ∙ ap (λ b. b || member q es) (ap (λ l. getD l q false) errors-are ∙ none-failed 64 q)
+      ∙ sym (getD-tabled 64 q (λ p. member p es) false low)) in
       let counted : 0 + length ss ≡ length ss = omega arith in
       let ways-path = k3 .1 ∙ k2 .1 ∙ ways-are in
       let count-path = k3 .2 ∙ placed .1 ∙ counted in
@@ -124,8 +124,7 @@ follow-lays rs r p =
     let states-are : allSteps (allWays (blank n s) xs) ss .states ≡ n = k2 .0 .0 ∙ k1 .0 .0 in
     let c = errors-once es (allSteps (allWays (blank n s) xs) ss) (ap length (k2 .2 ∙ k1 .3), subst (λ m. m ≤ 64) (sym states-are) (t .4 .1)) (told .6) in
     let few : length ss ≤ 256 = let f = b .3 in let z = k1 .1 in omega arith in
-    let within : All (λ e. e < n) es = subst (λ m. All (λ e. e < m) es) states-are (c .0) in
-    (
+    let within : All (λ e. e < n) es = subst (λ m. All (λ e. e < m) es) states-are (c .0) in (
       content n s xs ss es,
       record {
         some = t .4 .0;
@@ -137,7 +136,7 @@ follow-lays rs r p =
         steps-once = b .1;
         steps-few = few;
         errors-fit = within;
-        errors-once = c .1
+        errors-once = c .1;
       },
       t .3 ∙ ap (next 1 (n ∷ s ∷ [])) (told .3),
       told .7 ∙ row-is n s xs (a .0) (a .1) ss es few (t .4 .1) within,
@@ -165,9 +164,9 @@ lays-follow rs r l =
     let fit = all-same (fitting (allWays (blank n s) xs)) (fits c) (λ t. sym (fits-same n s xs (law .actions-fit) (law .actions-once) ss es t)) ss (law .steps-fit) in
     let steps-room : allWays (blank n s) xs .count + length ss ≤ 256 = let f = law .steps-few in omega arith in
     let b : EachStepFits (allWays (blank n s) xs) ss =
-        once-steps ss (allWays (blank n s) xs) (ap length (k1 .2), subst (λ m. m ≤ 256) (sym (k1 .1)) (omega arith)) fit (law .steps-once) (untold-none (allWays (blank n s) xs) zero-yet ss) steps-room in
+    once-steps ss (allWays (blank n s) xs) (ap length (k1 .2), subst (λ m. m ≤ 256) (sym (k1 .1)) (omega arith)) fit (law .steps-once) (untold-none (allWays (blank n s) xs) zero-yet ss) steps-room in
     let e : EachErrorFits (allSteps (allWays (blank n s) xs) ss) es =
-        once-errors es (allSteps (allWays (blank n s) xs) ss) (subst (λ m. All (λ x. x < m) es) (sym states-are) (law .errors-fit)) (law .errors-once) (none-unfailed (allSteps (allWays (blank n s) xs) ss) (k2 .2 ∙ k1 .3) es) in
+    once-errors es (allSteps (allWays (blank n s) xs) ss) (subst (λ m. All (λ x. x < m) es) (sym states-are) (law .errors-fit)) (law .errors-once) (none-unfailed (allSteps (allWays (blank n s) xs) ss) (k2 .2 ∙ k1 .3) es) in
     ap (follow (blank 1 0) Head 0) (l .2)
     ∙ follow-table n s xs ss es (blank 1 0) 0 (law .some) (law .few) (law .begins) a b e
     ∙ ap Ok (row-is n s xs (law .actions-fit) (law .actions-once) ss es (law .steps-few) (law .few) (law .errors-fit) ∙ sym (l .3))

@@ -32,23 +32,23 @@ pair-read : (at kind : ℕ) (body : List ℕ) → PairRead at kind body (pairOf 
 pair-read at kind body =
     ⊎-elim
     (λ (k : kind ≡ 16).
-        subst (PairRead at kind body) (sym (cond-true (eqb kind 16) (pairSized 4 at body) _ (eq-eqb kind 16 k)))
-        (⊎-elim
-        (λ (n : length body ≡ 4). subst (PairRead at kind body) (sym (cond-true (eqb (length body) 4) (Ok (pairFrom body)) (Err (Length at)) (eq-eqb (length body) 4 n))) (inl (k, n), refl))
-        (λ (n : length body ≡ 4 → ⊥). subst (PairRead at kind body) (sym (cond-false (eqb (length body) 4) (Ok (pairFrom body)) (Err (Length at)) (ne-eqb (length body) 4 n))) (refl, λ more. (kind, body, more, refl, inl (k, n))))
-        (cases-eq (length body) 4)))
+    subst (PairRead at kind body) (sym (cond-true (eqb kind 16) (pairSized 4 at body) _ (eq-eqb kind 16 k)))
+    (⊎-elim
+    (λ (n : length body ≡ 4). subst (PairRead at kind body) (sym (cond-true (eqb (length body) 4) (Ok (pairFrom body)) (Err (Length at)) (eq-eqb (length body) 4 n))) (inl (k, n), refl))
+    (λ (n : length body ≡ 4 → ⊥). subst (PairRead at kind body) (sym (cond-false (eqb (length body) 4) (Ok (pairFrom body)) (Err (Length at)) (ne-eqb (length body) 4 n))) (refl, λ more. (kind, body, more, refl, inl (k, n))))
+    (cases-eq (length body) 4)))
     (λ (k : kind ≡ 16 → ⊥).
-        subst (PairRead at kind body) (sym (cond-false (eqb kind 16) (pairSized 4 at body) _ (ne-eqb kind 16 k)))
-        (⊎-elim
-        (λ (l : kind ≡ 17).
-            subst (PairRead at kind body) (sym (cond-true (eqb kind 17) (pairSized 10 at body) (Err (Kind at)) (eq-eqb kind 17 l)))
-            (⊎-elim
-            (λ (n : length body ≡ 10). subst (PairRead at kind body) (sym (cond-true (eqb (length body) 10) (Ok (pairFrom body)) (Err (Length at)) (eq-eqb (length body) 10 n))) (inr (l, n), refl))
-            (λ (n : length body ≡ 10 → ⊥). subst (PairRead at kind body) (sym (cond-false (eqb (length body) 10) (Ok (pairFrom body)) (Err (Length at)) (ne-eqb (length body) 10 n))) (refl, λ more. (kind, body, more, refl, inr (l, n))))
-            (cases-eq (length body) 10)))
-        (λ (l : kind ≡ 17 → ⊥).
-            subst (PairRead at kind body) (sym (cond-false (eqb kind 17) (pairSized 10 at body) (Err (Kind at)) (ne-eqb kind 17 l))) (refl, λ more. (kind, body, more, refl, k, l)))
-        (cases-eq kind 17)))
+    subst (PairRead at kind body) (sym (cond-false (eqb kind 16) (pairSized 4 at body) _ (ne-eqb kind 16 k)))
+    (⊎-elim
+    (λ (l : kind ≡ 17).
+    subst (PairRead at kind body) (sym (cond-true (eqb kind 17) (pairSized 10 at body) (Err (Kind at)) (eq-eqb kind 17 l)))
+    (⊎-elim
+    (λ (n : length body ≡ 10). subst (PairRead at kind body) (sym (cond-true (eqb (length body) 10) (Ok (pairFrom body)) (Err (Length at)) (eq-eqb (length body) 10 n))) (inr (l, n), refl))
+    (λ (n : length body ≡ 10 → ⊥). subst (PairRead at kind body) (sym (cond-false (eqb (length body) 10) (Ok (pairFrom body)) (Err (Length at)) (ne-eqb (length body) 10 n))) (refl, λ more. (kind, body, more, refl, inr (l, n))))
+    (cases-eq (length body) 10)))
+    (λ (l : kind ≡ 17 → ⊥).
+    subst (PairRead at kind body) (sym (cond-false (eqb kind 17) (pairSized 10 at body) (Err (Kind at)) (ne-eqb kind 17 l))) (refl, λ more. (kind, body, more, refl, k, l)))
+    (cases-eq kind 17)))
     (cases-eq kind 16)
 
 -- a record that tells a pair is read as it

@@ -57,14 +57,14 @@ pub pair-short : (at kind : ℕ) (body : List ℕ) (p : Pair) → pairOf at kind
 pair-short at kind body p e =
     ⊎-elim
     (λ (k : kind ≡ 16).
-        let q = sym (cond-true (eqb kind 16) (pairSized 4 at body) _ (eq-eqb kind 16 k)) ∙ e in
-        let n = eqb-true (length body) 4 (cond-ok (eqb (length body) 4) (Ok (pairFrom body)) (Length at) q .0) in
-        omega arith)
+    let q = sym (cond-true (eqb kind 16) (pairSized 4 at body) _ (eq-eqb kind 16 k)) ∙ e in
+    let n = eqb-true (length body) 4 (cond-ok (eqb (length body) 4) (Ok (pairFrom body)) (Length at) q .0) in
+    omega arith)
     (λ (k : kind ≡ 16 → ⊥).
-        let q = sym (cond-false (eqb kind 16) (pairSized 4 at body) _ (ne-eqb kind 16 k)) ∙ e in
-        let r = cond-ok (eqb kind 17) (pairSized 10 at body) (Kind at) q in
-        let n = eqb-true (length body) 10 (cond-ok (eqb (length body) 10) (Ok (pairFrom body)) (Length at) (r .1) .0) in
-        omega arith)
+    let q = sym (cond-false (eqb kind 16) (pairSized 4 at body) _ (ne-eqb kind 16 k)) ∙ e in
+    let r = cond-ok (eqb kind 17) (pairSized 10 at body) (Kind at) q in
+    let n = eqb-true (length body) 10 (cond-ok (eqb (length body) 10) (Ok (pairFrom body)) (Length at) (r .1) .0) in
+    omega arith)
     (cases-eq kind 16)
 
 module _ (ps : List Pair) (at : ℕ) (bytes : List ℕ) where

@@ -58,14 +58,14 @@ way-number w d =
     ⊎-elim
     (λ (one : w ≡ 1). ap (λ n. number (wayFrom n)) one ∙ sym one)
     (λ (n1 : w ≡ 1 → ⊥).
-        let first : wayFrom w ≡ cond (eqb w 2) Output Absent = cond-false (eqb w 1) Input (cond (eqb w 2) Output Absent) (ne-eqb w 1 n1) in
-        ⊎-elim
-        (λ (two : w ≡ 2). ap (λ n. number (wayFrom n)) two ∙ sym two)
-        (λ (n2 : w ≡ 2 → ⊥).
-            let second : wayFrom w ≡ Absent = first ∙ cond-false (eqb w 2) Output Absent (ne-eqb w 2 n2) in
-            let no-way = sym (ap declared second) ∙ d in
-            absurd (false≢true no-way))
-        (cases-eq w 2))
+    let first : wayFrom w ≡ cond (eqb w 2) Output Absent = cond-false (eqb w 1) Input (cond (eqb w 2) Output Absent) (ne-eqb w 1 n1) in
+    ⊎-elim
+    (λ (two : w ≡ 2). ap (λ n. number (wayFrom n)) two ∙ sym two)
+    (λ (n2 : w ≡ 2 → ⊥).
+    let second : wayFrom w ≡ Absent = first ∙ cond-false (eqb w 2) Output Absent (ne-eqb w 2 n2) in
+    let no-way = sym (ap declared second) ∙ d in
+    absurd (false≢true no-way))
+    (cases-eq w 2))
     (cases-eq w 1)
 
 pub number-way : (w : Way) → declared w ≡ true → wayFrom (number w) ≡ w
@@ -228,7 +228,7 @@ pub follow-errors : (es : List ℕ) (r : Row) (stage : Stage) (at : ℕ) → clo
 follow-errors [] r stage at going d4 d5 fit = follow-closing r stage at going d5
 follow-errors (s ∷ es) r stage at going d4 d5 fit =
     let new : failed r at (s ∷ []) ≡ Ok (withError r s) =
-        cond-true (ltb s (r .states)) _ (Err (Value at)) (lt-ltb s (r .states) (fit .0 .0)) ∙ cond-false (errorAt r s) (Err (Repeated at)) (Ok (withError r s)) (fit .0 .1) in
+    cond-true (ltb s (r .states)) _ (Err (Value at)) (lt-ltb s (r .states) (fit .0 .0)) ∙ cond-false (errorAt r s) (Err (Repeated at)) (Ok (withError r s)) (fit .0 .1) in
     let in-turn : entered r stage at 4 (s ∷ []) ≡ Ok (withError r s, Errors) = cond-true (due stage 4) _ (Err (Kind at)) d4 ∙ ap (staged Errors) new in
     follow-more r stage at 4 (s ∷ []) (telling 4 errorBody es closing) (withError r s, Errors) going in-turn
     ∙ follow-errors es (withError r s) Errors (at + sizeOf (s ∷ [])) refl refl refl (fit .1)
@@ -238,8 +238,8 @@ pub follow-steps : (ss : List Step) (es : List ℕ) (r : Row) (stage : Stage) (a
 follow-steps [] es r stage at going d3 d4 d5 fit fite = follow-errors es r stage at going d4 d5 fite
 follow-steps (s ∷ ss) es r stage at going d3 d4 d5 fit fite =
     let new : stepIn r at s ≡ Ok (withStep r s) =
-        cond-true (fitting r s) _ (Err (Value at)) (fit .0 .0) ∙ cond-false (told s (listed r)) (Err (Repeated at)) _ (fit .0 .1)
-        ∙ cond-true (ltb (r .count) 256) (Ok (withStep r s)) (Err (Overfull at)) (lt-ltb (r .count) 256 (fit .0 .2)) in
+    cond-true (fitting r s) _ (Err (Value at)) (fit .0 .0) ∙ cond-false (told s (listed r)) (Err (Repeated at)) _ (fit .0 .1)
+    ∙ cond-true (ltb (r .count) 256) (Ok (withStep r s)) (Err (Overfull at)) (lt-ltb (r .count) 256 (fit .0 .2)) in
     let in-turn : entered r stage at 3 (stepBody s) ≡ Ok (withStep r s, Steps) = cond-true (due stage 3) _ (Err (Kind at)) d3 ∙ ap (staged Steps) new in
     follow-more r stage at 3 (stepBody s) (telling 3 stepBody ss (telling 4 errorBody es closing)) (withStep r s, Steps) going in-turn
     ∙ follow-steps ss es (withStep r s) Steps (at + sizeOf (stepBody s)) refl refl refl refl (fit .1) fite
@@ -253,8 +253,8 @@ follow-actions (a ∷ more) ss es r at fit fits fite =
     let back = number-way w (fit .0 .2) in
     let ok = and-from (leb 1 n) (leb n 32 && declared (wayFrom (number w))) (le-leb 1 n (fit .0 .0)) (and-from (leb n 32) _ (le-leb n 32 (fit .0 .1)) (ap declared back ∙ fit .0 .2)) in
     let new : acted r at (actionBody a) ≡ Ok (withWay r n w) =
-        cond-true (leb 1 n && (leb n 32 && declared (wayFrom (number w)))) _ (Err (Value at)) ok
-        ∙ cond-false (declared (wayOf r n)) (Err (Repeated at)) _ (fit .0 .3) ∙ ap (λ x. Ok (withWay r n x)) back in
+    cond-true (leb 1 n && (leb n 32 && declared (wayFrom (number w)))) _ (Err (Value at)) ok
+    ∙ cond-false (declared (wayOf r n)) (Err (Repeated at)) _ (fit .0 .3) ∙ ap (λ x. Ok (withWay r n x)) back in
     follow-more r Actions at 2 (actionBody a) (telling 2 actionBody more (telling 3 stepBody ss (telling 4 errorBody es closing))) (withWay r n w, Actions) refl (ap (staged Actions) new)
     ∙ follow-actions more ss es (withWay r n w) (at + sizeOf (actionBody a)) (fit .1) fits fite
 

@@ -19,19 +19,20 @@ bodied-shorter : (n kind : ℕ) (bytes : List ℕ) (t : ℕ × List ℕ × List 
 bodied-shorter n kind bytes t e =
     ⊎-elim
     (λ (h : leb n (length bytes) ≡ true).
-        let fits : n ≤ length bytes = leb-true n (length bytes) h in
-        let is : Some (kind, take n bytes, drop n bytes) ≡ Some t = sym (ap (λ b. cond b (Some (kind, take n bytes, drop n bytes)) None) h) ∙ e in
-        let body : take n bytes ≡ t .1 = ap (λ o. part o) is in
-        let rest : drop n bytes ≡ t .2 = ap (λ o. behind o) is in
-        ap (λ b. length b + length (t .2)) (sym body) ∙ ap (λ r. length (take n bytes) + length r) (sym rest) ∙ simp (length-take, length-drop) (omega arith))
+    let fits : n ≤ length bytes = leb-true n (length bytes) h in
+    let is : Some (kind, take n bytes, drop n bytes) ≡ Some t = sym (ap (λ b. cond b (Some (kind, take n bytes, drop n bytes)) None) h) ∙ e in
+    let body : take n bytes ≡ t .1 = ap (λ o. part o) is in
+    let rest : drop n bytes ≡ t .2 = ap (λ o. behind o) is in
+    ap (λ b. length b + length (t .2)) (sym body) ∙ ap (λ r. length (take n bytes) + length r) (sym rest) ∙ simp (length-take, length-drop) (omega arith))
     (λ (h : leb n (length bytes) ≡ false).
-        let is : None ≡ Some t = sym (ap (λ b. cond b (Some (kind, take n bytes, drop n bytes)) None) h) ∙ e in
-        let z : _≡_ {A = ℕ} 0 1 = cc in absurd (omega arith))
+    let is : None ≡ Some t = sym (ap (λ b. cond b (Some (kind, take n bytes, drop n bytes)) None) h) ∙ e in
+    let z : _≡_ {A = ℕ} 0 1 = cc in absurd (omega arith))
     (cases-bool (leb n (length bytes)))
   where
     part : Option (ℕ × List ℕ × List ℕ) → List ℕ
     part None = []
     part (Some t) = t .1
+
     behind : Option (ℕ × List ℕ × List ℕ) → List ℕ
     behind None = []
     behind (Some t) = t .2
@@ -114,7 +115,7 @@ read-back kind body bytes hk hl =
     let long = length-append body bytes in
     let fits : leb (length body) (length (body ++ bytes)) ≡ true = le-leb (length body) (length (body ++ bytes)) (omega arith) in
     let here : front (written kind body ++ bytes) ≡ Some (kind, body, bytes) =
-        (λ i. bodied (n i) (k i) (body ++ bytes))
-        ∙ ap (λ b. cond b (Some (kind, take (length body) (body ++ bytes), drop (length body) (body ++ bytes))) None) fits
-        ∙ (λ i. Some (kind, take-at body bytes (length body) refl i, drop-at body bytes (length body) refl i)) in
+    (λ i. bodied (n i) (k i) (body ++ bytes))
+    ∙ ap (λ b. cond b (Some (kind, take (length body) (body ++ bytes), drop (length body) (body ++ bytes))) None) fits
+    ∙ (λ i. Some (kind, take-at body bytes (length body) refl i, drop-at body bytes (length body) refl i)) in
     records-next (written kind body ++ bytes) (kind, body, bytes) here

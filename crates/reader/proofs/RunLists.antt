@@ -70,24 +70,24 @@ module _ (bytes : List ℕ) (behind : List ℕ) where
       let whole : length moves ≡ 3 * n = omega arith in
       cond-both (eqb (length behind) 0) (Ok (ending, movesIn moves)) (Err (Record (Trailing (6 + length moves)))) (RunRead (records bytes))
       (λ t.
-          let ms = moves-told n moves whole in
-          let count = ms .1 in
-          (e, i, moves, is ∙ ap (next 18 (e ∷ i ∷ moves)) (records-none behind (eqb-true (length behind) 0 t)), told, ms .0, omega arith))
+      let ms = moves-told n moves whole in
+      let count = ms .1 in
+      (e, i, moves, is ∙ ap (next 18 (e ∷ i ∷ moves)) (records-none behind (eqb-true (length behind) 0 t)), told, ms .0, omega arith))
       (λ t.
-          let some = eqb-false (length behind) 0 t in
-          (e, i, n, records behind, (moves, is, whole), few, records-some behind (omega arith), omega arith))
+      let some = eqb-false (length behind) 0 t in
+      (e, i, n, records behind, (moves, is, whole), few, records-some behind (omega arith), omega arith))
 
   moved-read : (e i : ℕ) (moves : List ℕ) → records bytes ≡ next 18 (e ∷ i ∷ moves) (records behind) → RunRead (records bytes) (moved e i moves behind)
   moved-read e i moves is =
       cond-both (eqb (length moves % 3) 0) (cond (leb (length moves / 3) 4096) (alone moves behind (endingOf e i)) (Err (Moves (length moves / 3)))) (Err (Record (Length 0))) (RunRead (records bytes))
       (λ t.
-          let div = eqb-true (length moves % 3) 0 t in
-          cond-both (leb (length moves / 3) 4096) (alone moves behind (endingOf e i)) (Err (Moves (length moves / 3))) (RunRead (records bytes))
-          (λ u. alone-read e i moves is div (leb-true (length moves / 3) 4096 u) (endingOf e i) refl)
-          (λ u. (e, i, records behind, (moves, is, omega arith), leb-false (length moves / 3) 4096 u)))
+      let div = eqb-true (length moves % 3) 0 t in
+      cond-both (leb (length moves / 3) 4096) (alone moves behind (endingOf e i)) (Err (Moves (length moves / 3))) (RunRead (records bytes))
+      (λ u. alone-read e i moves is div (leb-true (length moves / 3) 4096 u) (endingOf e i) refl)
+      (λ u. (e, i, records behind, (moves, is, omega arith), leb-false (length moves / 3) 4096 u)))
       (λ t.
-          let odd = eqb-false (length moves % 3) 0 t in
-          (refl, (e ∷ i ∷ moves, records behind, is, λ n h. odd (omega arith))))
+      let odd = eqb-false (length moves % 3) 0 t in
+      (refl, (e ∷ i ∷ moves, records behind, is, λ n h. odd (omega arith))))
 
   embodied-read : (body : List ℕ) → records bytes ≡ next 18 body (records behind) → RunRead (records bytes) (embodied body behind)
   embodied-read [] is = (refl, ([], records behind, is, λ n h. omega arith))

@@ -39,6 +39,7 @@ moves-more (a ∷ b ∷ c ∷ bytes) t e =
     first : Option (Move × List ℕ) → Move
     first None = record { action = 0; state = 0 }
     first (Some t) = t .0
+
     behind : Option (Move × List ℕ) → List ℕ
     behind None = bytes
     behind (Some t) = t .1

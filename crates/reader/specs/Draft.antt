@@ -1,8 +1,8 @@
 -- headed, acted, stepped, failed, ended    the row after a head, an action, a step, an error or an end, or its fault
+-- withWay, withStep, withError             the row with one thing more
 -- due stage kind                           may a record of this kind stand at this stage?
 -- entered row stage at kind body           the row and the stage after a record that stands at an offset, or its fault
 -- follow row stage at rs                   the table that the records rs, from an offset on, make of a row, or the first fault
--- opened bytes                             the table that some bytes lay out, or their first fault
 use mathlib.Core.Bool.{Bool, true, false, cond, not, _&&_, _||_}
 use mathlib.Core.List.{List, [], _∷_}
 use Prim.Native.Nat.{ℕ, _+_, _-_}

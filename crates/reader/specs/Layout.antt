@@ -99,7 +99,7 @@ rowOf c = record {
   ways = tabled 32 (λ i. wayIn (suc i) (c .actions));
   count = length (c .steps);
   steps = c .steps ++ replicate (256 - length (c .steps)) unused;
-  errors = tabled 64 (λ s. member s (c .errors))
+  errors = tabled 64 (λ s. member s (c .errors));
 }
 
 -- some records are those of a lawful content, and r is its row

@@ -99,7 +99,11 @@ impl Draft {
         let [from, action, to] = body else {
             return Err(Fault::Length(at));
         };
-        let step = Step { from: *from, action: *action, to: *to };
+        let step = Step {
+            from: *from,
+            action: *action,
+            to: *to,
+        };
         if !self.row.fits(step) {
             return Err(Fault::Value(at));
         }

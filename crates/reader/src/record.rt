@@ -32,5 +32,4 @@ pub fn split(bytes: &[u8]) -> Option<(Record<'_>, &[u8])>
 // A theorem: records that are written one behind the other are cut apart again as they were written.
 pub fn records_read_back()
     ensures { λ _. ⌜ ReadBack ⌝ }
-{
-}
+{}

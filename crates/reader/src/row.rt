@@ -16,7 +16,7 @@ pub struct Step {
 
 impl Step {
     // Whether both are one step.
-    pub fn same(&self, other: Step) -> bool
+    fn same(&self, other: Step) -> bool
         ensures { λ r. ⌜ r ≡ sameStep (now (self .entry)) other ⌝ }
     {
         self.from == other.from && self.action == other.action && self.to == other.to
@@ -45,7 +45,11 @@ impl Row {
             start,
             ways: [Way::Absent; 32],
             count: 0,
-            steps: [Step { from: 0, action: 0, to: 0 }; 256],
+            steps: [Step {
+                from: 0,
+                action: 0,
+                to: 0,
+            }; 256],
             errors: [false; 64],
         }
     }
@@ -71,7 +75,7 @@ impl Row {
     }
 
     // Whether an action may stand in a step: 0, or one that has a way.
-    pub fn is_usable(&self, action: u8) -> bool
+    fn is_usable(&self, action: u8) -> bool
         ensures { λ r. ⌜ r ≡ usable (now (self .entry)) action ⌝ }
     {
         action == 0 || self.way(action) != Way::Absent
@@ -96,11 +100,18 @@ impl Row {
     pub fn has_step(&self, step: Step) -> bool
         ensures { λ r. ⌜ r ≡ told step (listedOf (now (self .entry))) ⌝ }
     {
-        for told in self.listed() {
-            if told.same(step) {
-                return true;
-            }
-        }
-        false
+        is_among(step, self.listed())
     }
+}
+
+// Whether a step stands among others.
+fn is_among(step: Step, steps: &[Step]) -> bool
+    ensures { λ r. ⌜ r ≡ told step (now (steps .entry)) ⌝ }
+{
+    for other in steps {
+        if other.same(step) {
+            return true;
+        }
+    }
+    false
 }

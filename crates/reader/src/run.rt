@@ -107,7 +107,10 @@ fn read_moves(bytes: &[u8]) -> Listing<Move>
     requires { ⌜ length (now bytes) ≤ 3 * 4096 ⌝ }
     ensures { λ r. ⌜ items r ≡ movesIn (now (bytes .entry)) ⌝ }
 {
-    let mut moves = Listing::new(Move { action: 0, state: 0 });
+    let mut moves = Listing::new(Move {
+        action: 0,
+        state: 0,
+    });
     let mut rest = bytes;
     while let Some((step, behind)) = split_move(rest) {
         let _ = moves.push(step);
@@ -124,5 +127,11 @@ fn split_move(bytes: &[u8]) -> Option<(Move, &[u8])>
         return None;
     };
     let state = u16::from_le_bytes([*low, *high]);
-    Some((Move { action: *action, state }, behind))
+    Some((
+        Move {
+            action: *action,
+            state,
+        },
+        behind,
+    ))
 }

@@ -28,7 +28,9 @@ impl Table {
     pub fn resting() -> Table
         ensures { λ r. ⌜ r .row ≡ blank 1 0 ⌝ }
     {
-        Table { row: Row::blank(1, 0) }
+        Table {
+            row: Row::blank(1, 0),
+        }
     }
 
     // What the table tells.

@@ -31,24 +31,49 @@ fn run_verdict(bytes: &[u8]) -> (usize, u8, u32) {
 
 #[test]
 fn narrow_and_wide_pairs() -> Result<(), Fail> {
-    let bytes = b"\x04\x00\x10\x00\x34\x12\x02\x01\x0a\x00\x11\x00\x01\x00\x01\x02\x03\x04\x05\x06\x07\x80";
+    let bytes =
+        b"\x04\x00\x10\x00\x34\x12\x02\x01\x0a\x00\x11\x00\x01\x00\x01\x02\x03\x04\x05\x06\x07\x80";
     let Ok(pairs) = read_pairs(bytes) else {
         return Err(Fail::new("two pairs"));
     };
     let list = pairs.as_slice();
     check(list.len() == 2)?;
-    check_eq(list[0], Pair { state: 0x1234, set: 0x0102 })?;
-    check_eq(list[1], Pair { state: 1, set: 0x8007_0605_0403_0201 })
+    check_eq(
+        list[0],
+        Pair {
+            state: 0x1234,
+            set: 0x0102,
+        },
+    )?;
+    check_eq(
+        list[1],
+        Pair {
+            state: 1,
+            set: 0x8007_0605_0403_0201,
+        },
+    )
 }
 
 #[test]
 fn pair_refusals() -> Result<(), Fail> {
     check_eq(pairs_verdict(b""), (0, 0, 0))?;
     check_eq(pairs_verdict(b"\x04\x00\x10"), (0, 1, 0))?;
-    check_eq(pairs_verdict(b"\x04\x00\x10\x00\x00\x00\x01\x00\x04\x00\x10\x00\x00\x00\x01"), (0, 1, 8))?;
-    check_eq(pairs_verdict(b"\x04\x00\x10\x00\x00\x00\x01\x00\x04\x00\x12\x00\x00\x00\x01\x00"), (0, 2, 8))?;
-    check_eq(pairs_verdict(b"\x04\x00\x11\x00\x00\x00\x01\x00"), (0, 3, 0))?;
-    check_eq(pairs_verdict(b"\x0a\x00\x10\x00\x00\x00\x01\x02\x03\x04\x05\x06\x07\x80"), (0, 3, 0))
+    check_eq(
+        pairs_verdict(b"\x04\x00\x10\x00\x00\x00\x01\x00\x04\x00\x10\x00\x00\x00\x01"),
+        (0, 1, 8),
+    )?;
+    check_eq(
+        pairs_verdict(b"\x04\x00\x10\x00\x00\x00\x01\x00\x04\x00\x12\x00\x00\x00\x01\x00"),
+        (0, 2, 8),
+    )?;
+    check_eq(
+        pairs_verdict(b"\x04\x00\x11\x00\x00\x00\x01\x00"),
+        (0, 3, 0),
+    )?;
+    check_eq(
+        pairs_verdict(b"\x0a\x00\x10\x00\x00\x00\x01\x02\x03\x04\x05\x06\x07\x80"),
+        (0, 3, 0),
+    )
 }
 
 fn many_pairs(heap: Global, n: u16) -> Result<Vec<u8>, Fail> {
@@ -65,7 +90,10 @@ fn pairs_4096_and_4097(rt: LibcRuntime) -> Result<(), Fail> {
     check_eq(pairs_verdict(bytes.as_slice()), (4096, 0, 0))?;
     bytes.push(0)?;
     check_eq(pairs_verdict(bytes.as_slice()), (0, 14, 4096))?;
-    check_eq(pairs_verdict(many_pairs(rt.alloc(), 4097)?.as_slice()), (0, 14, 4096))
+    check_eq(
+        pairs_verdict(many_pairs(rt.alloc(), 4097)?.as_slice()),
+        (0, 14, 4096),
+    )
 }
 
 #[test]
@@ -76,8 +104,20 @@ fn runs_and_endings() -> Result<(), Fail> {
     check_eq(run.ending, Ending::Unaccepted(5))?;
     let moves = run.moves.as_slice();
     check(moves.len() == 2)?;
-    check_eq(moves[0], Move { action: 1, state: 0x0102 })?;
-    check_eq(moves[1], Move { action: 0, state: 3 })?;
+    check_eq(
+        moves[0],
+        Move {
+            action: 1,
+            state: 0x0102,
+        },
+    )?;
+    check_eq(
+        moves[1],
+        Move {
+            action: 0,
+            state: 3,
+        },
+    )?;
     check_eq(run_verdict(b"\x02\x00\x12\x00\x01\x00"), (0, 0, 0))?;
     check_eq(run_verdict(b"\x02\x00\x12\x00\x02\x00"), (0, 0, 0))
 }
@@ -93,7 +133,10 @@ fn run_refusals() -> Result<(), Fail> {
     check_eq(run_verdict(b"\x02\x00\x12\x00\x04\x00"), (0, 4, 0))?;
     check_eq(run_verdict(b"\x02\x00\x12\x00\x01\x01"), (0, 4, 0))?;
     check_eq(run_verdict(b"\x02\x00\x12\x00\x02\x01"), (0, 4, 0))?;
-    check_eq(run_verdict(b"\x05\x00\x12\x00\x01\x00\x01\x00\x00\x00"), (0, 7, 9))
+    check_eq(
+        run_verdict(b"\x05\x00\x12\x00\x01\x00\x01\x00\x00\x00"),
+        (0, 7, 9),
+    )
 }
 
 // A run of n moves with an ending that is none.
@@ -111,6 +154,12 @@ fn many_moves(heap: Global, n: u16) -> Result<Vec<u8>, Fail> {
 
 #[test]
 fn moves_4096_and_4097(rt: LibcRuntime) -> Result<(), Fail> {
-    check_eq(run_verdict(many_moves(rt.alloc(), 4096)?.as_slice()), (4096, 0, 0))?;
-    check_eq(run_verdict(many_moves(rt.alloc(), 4097)?.as_slice()), (0, 24, 4097))
+    check_eq(
+        run_verdict(many_moves(rt.alloc(), 4096)?.as_slice()),
+        (4096, 0, 0),
+    )?;
+    check_eq(
+        run_verdict(many_moves(rt.alloc(), 4097)?.as_slice()),
+        (0, 24, 4097),
+    )
 }

@@ -1,7 +1,6 @@
 // Examples of what the reader takes and refuses.
 
 #[cfg(test)]
-mod tables;
-
-#[cfg(test)]
 mod evidence;
+#[cfg(test)]
+mod tables;

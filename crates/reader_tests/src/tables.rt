@@ -6,7 +6,8 @@ use std::alloc::Global;
 use std::test::*;
 
 // Two states; input 1, output 2; a step under each, and one internal step; state 1 is an error.
-const GOOD: &[u8] = b"\x02\x00\x01\x00\x02\x00\x02\x00\x02\x00\x01\x01\x02\x00\x02\x00\x02\x02\x03\x00\x03\x00\x00\x01\x01\x03\x00\x03\x00\x01\x02\x00\x03\x00\x03\x00\x01\x00\x00\x01\x00\x04\x00\x01\x00\x00\x05\x00";
+const GOOD: &[u8] =
+    b"\x02\x00\x01\x00\x02\x00\x02\x00\x02\x00\x01\x01\x02\x00\x02\x00\x02\x02\x03\x00\x03\x00\x00\x01\x01\x03\x00\x03\x00\x01\x02\x00\x03\x00\x03\x00\x01\x00\x00\x01\x00\x04\x00\x01\x00\x00\x05\x00";
 
 // Where the records of the good table begin.
 const STARTS: [u32; 8] = [0, 6, 12, 18, 25, 32, 39, 44];
@@ -26,10 +27,29 @@ fn a_good_table_opens() -> Result<(), Fail> {
     check(table.open(GOOD).is_ok())?;
     let row = table.row();
     check_eq((row.states, row.start, row.count), (2, 0, 3))?;
-    check_eq((row.way(1).number(), row.way(2).number(), row.way(3).number()), (1, 2, 0))?;
-    check(row.has_step(Step { from: 0, action: 1, to: 1 }))?;
-    check(row.has_step(Step { from: 1, action: 2, to: 0 }))?;
-    check(row.has_step(Step { from: 1, action: 0, to: 0 }))?;
+    check_eq(
+        (
+            row.way(1).number(),
+            row.way(2).number(),
+            row.way(3).number(),
+        ),
+        (1, 2, 0),
+    )?;
+    check(row.has_step(Step {
+        from: 0,
+        action: 1,
+        to: 1,
+    }))?;
+    check(row.has_step(Step {
+        from: 1,
+        action: 2,
+        to: 0,
+    }))?;
+    check(row.has_step(Step {
+        from: 1,
+        action: 0,
+        to: 0,
+    }))?;
     check_eq((row.is_error(0), row.is_error(1)), (false, true))
 }
 
@@ -67,19 +87,40 @@ fn cuts() -> Result<(), Fail> {
 #[test]
 fn wrong_kinds() -> Result<(), Fail> {
     check_eq(verdict(b"\x00\x00\x05\x00"), (2, 0))?;
-    check_eq(verdict(b"\x02\x00\x01\x00\x02\x00\x02\x00\x01\x00\x02\x00"), (2, 6))?;
-    check_eq(verdict(b"\x02\x00\x01\x00\x02\x00\x01\x00\x06\x00\x00"), (2, 6))?;
-    check_eq(verdict(b"\x02\x00\x01\x00\x02\x00\x03\x00\x03\x00\x00\x00\x01\x02\x00\x02\x00\x01\x01"), (2, 13))?;
-    check_eq(verdict(b"\x02\x00\x01\x00\x02\x00\x01\x00\x04\x00\x01\x03\x00\x03\x00\x00\x00\x01"), (2, 11))
+    check_eq(
+        verdict(b"\x02\x00\x01\x00\x02\x00\x02\x00\x01\x00\x02\x00"),
+        (2, 6),
+    )?;
+    check_eq(
+        verdict(b"\x02\x00\x01\x00\x02\x00\x01\x00\x06\x00\x00"),
+        (2, 6),
+    )?;
+    check_eq(
+        verdict(b"\x02\x00\x01\x00\x02\x00\x03\x00\x03\x00\x00\x00\x01\x02\x00\x02\x00\x01\x01"),
+        (2, 13),
+    )?;
+    check_eq(
+        verdict(b"\x02\x00\x01\x00\x02\x00\x01\x00\x04\x00\x01\x03\x00\x03\x00\x00\x00\x01"),
+        (2, 11),
+    )
 }
 
 #[test]
 fn wrong_lengths() -> Result<(), Fail> {
     check_eq(verdict(b"\x01\x00\x01\x00\x02"), (3, 0))?;
-    check_eq(verdict(b"\x02\x00\x01\x00\x02\x00\x03\x00\x02\x00\x01\x01\x00"), (3, 6))?;
-    check_eq(verdict(b"\x02\x00\x01\x00\x02\x00\x02\x00\x03\x00\x00\x00"), (3, 6))?;
+    check_eq(
+        verdict(b"\x02\x00\x01\x00\x02\x00\x03\x00\x02\x00\x01\x01\x00"),
+        (3, 6),
+    )?;
+    check_eq(
+        verdict(b"\x02\x00\x01\x00\x02\x00\x02\x00\x03\x00\x00\x00"),
+        (3, 6),
+    )?;
     check_eq(verdict(b"\x02\x00\x01\x00\x02\x00\x00\x00\x04\x00"), (3, 6))?;
-    check_eq(verdict(b"\x02\x00\x01\x00\x02\x00\x01\x00\x05\x00\x00"), (3, 6))
+    check_eq(
+        verdict(b"\x02\x00\x01\x00\x02\x00\x01\x00\x05\x00\x00"),
+        (3, 6),
+    )
 }
 
 #[test]
@@ -88,23 +129,64 @@ fn wrong_values() -> Result<(), Fail> {
     check_eq(verdict(b"\x02\x00\x01\x00\x02\x02\x00\x00\x05\x00"), (4, 0))?;
     check_eq(verdict(b"\x02\x00\x01\x00\x40\x3f\x00\x00\x05\x00"), (0, 0))?;
     check_eq(verdict(b"\x02\x00\x01\x00\x41\x00\x00\x00\x05\x00"), (4, 0))?;
-    check_eq(verdict(b"\x02\x00\x01\x00\x02\x00\x02\x00\x02\x00\x00\x01"), (4, 6))?;
-    check_eq(verdict(b"\x02\x00\x01\x00\x02\x00\x02\x00\x02\x00\x21\x01"), (4, 6))?;
-    check_eq(verdict(b"\x02\x00\x01\x00\x02\x00\x02\x00\x02\x00\x20\x02\x00\x00\x05\x00"), (0, 0))?;
-    check_eq(verdict(b"\x02\x00\x01\x00\x02\x00\x02\x00\x02\x00\x01\x03"), (4, 6))?;
-    check_eq(verdict(b"\x02\x00\x01\x00\x02\x00\x03\x00\x03\x00\x00\x01\x01"), (4, 6))?;
-    check_eq(verdict(b"\x02\x00\x01\x00\x02\x00\x03\x00\x03\x00\x02\x00\x01"), (4, 6))?;
-    check_eq(verdict(b"\x02\x00\x01\x00\x02\x00\x03\x00\x03\x00\x01\x00\x02"), (4, 6))?;
-    check_eq(verdict(b"\x02\x00\x01\x00\x02\x00\x01\x00\x04\x00\x02"), (4, 6))
+    check_eq(
+        verdict(b"\x02\x00\x01\x00\x02\x00\x02\x00\x02\x00\x00\x01"),
+        (4, 6),
+    )?;
+    check_eq(
+        verdict(b"\x02\x00\x01\x00\x02\x00\x02\x00\x02\x00\x21\x01"),
+        (4, 6),
+    )?;
+    check_eq(
+        verdict(b"\x02\x00\x01\x00\x02\x00\x02\x00\x02\x00\x20\x02\x00\x00\x05\x00"),
+        (0, 0),
+    )?;
+    check_eq(
+        verdict(b"\x02\x00\x01\x00\x02\x00\x02\x00\x02\x00\x01\x03"),
+        (4, 6),
+    )?;
+    check_eq(
+        verdict(b"\x02\x00\x01\x00\x02\x00\x03\x00\x03\x00\x00\x01\x01"),
+        (4, 6),
+    )?;
+    check_eq(
+        verdict(b"\x02\x00\x01\x00\x02\x00\x03\x00\x03\x00\x02\x00\x01"),
+        (4, 6),
+    )?;
+    check_eq(
+        verdict(b"\x02\x00\x01\x00\x02\x00\x03\x00\x03\x00\x01\x00\x02"),
+        (4, 6),
+    )?;
+    check_eq(
+        verdict(b"\x02\x00\x01\x00\x02\x00\x01\x00\x04\x00\x02"),
+        (4, 6),
+    )
 }
 
 #[test]
 fn repeats_and_rests() -> Result<(), Fail> {
-    check_eq(verdict(b"\x02\x00\x01\x00\x02\x00\x02\x00\x02\x00\x01\x01\x02\x00\x02\x00\x01\x02"), (5, 12))?;
-    check_eq(verdict(b"\x02\x00\x01\x00\x02\x00\x03\x00\x03\x00\x00\x00\x01\x03\x00\x03\x00\x00\x00\x01"), (5, 13))?;
-    check_eq(verdict(b"\x02\x00\x01\x00\x02\x00\x01\x00\x04\x00\x01\x01\x00\x04\x00\x01"), (5, 11))?;
-    check_eq(verdict(b"\x02\x00\x01\x00\x02\x00\x00\x00\x05\x00\x07"), (7, 10))?;
-    check_eq(verdict(b"\x02\x00\x01\x00\x02\x00\x00\x00\x05\x00\x00\x00\x05\x00"), (7, 10))
+    check_eq(
+        verdict(b"\x02\x00\x01\x00\x02\x00\x02\x00\x02\x00\x01\x01\x02\x00\x02\x00\x01\x02"),
+        (5, 12),
+    )?;
+    check_eq(
+        verdict(
+            b"\x02\x00\x01\x00\x02\x00\x03\x00\x03\x00\x00\x00\x01\x03\x00\x03\x00\x00\x00\x01",
+        ),
+        (5, 13),
+    )?;
+    check_eq(
+        verdict(b"\x02\x00\x01\x00\x02\x00\x01\x00\x04\x00\x01\x01\x00\x04\x00\x01"),
+        (5, 11),
+    )?;
+    check_eq(
+        verdict(b"\x02\x00\x01\x00\x02\x00\x00\x00\x05\x00\x07"),
+        (7, 10),
+    )?;
+    check_eq(
+        verdict(b"\x02\x00\x01\x00\x02\x00\x00\x00\x05\x00\x00\x00\x05\x00"),
+        (7, 10),
+    )
 }
 
 // The first n steps of a table with 64 states, in the order of their ends.
@@ -124,5 +206,8 @@ fn many_steps(heap: Global, n: u16) -> Result<Vec<u8>, Fail> {
 #[test]
 fn steps_256_and_257(rt: LibcRuntime) -> Result<(), Fail> {
     check_eq(verdict(many_steps(rt.alloc(), 256)?.as_slice()), (0, 0))?;
-    check_eq(verdict(many_steps(rt.alloc(), 257)?.as_slice()), (6, 6 + 256 * 7))
+    check_eq(
+        verdict(many_steps(rt.alloc(), 257)?.as_slice()),
+        (6, 6 + 256 * 7),
+    )
 }

@@ -35,8 +35,8 @@ pub returns-in-Break-pair : need.returns-in-Break-pair
 returns-in-Break-pair c =
     let p = err-from-errBy (c .from-residual .result) (c .from-residual .ensures .1) in
     let e =
-        sym (gather-refused (items (c .loop-rest .pairs)) (c .loop-rest .at) (c .loop-rest .rest .now) _ _ (omega arith) (sym (c .in-Some .ensures tt .front)) (sym (c .in-Break-pair .ensures tt)))
-        ∙ c .loop-rest .inv .0 in
+    sym (gather-refused (items (c .loop-rest .pairs)) (c .loop-rest .at) (c .loop-rest .rest .now) _ _ (omega arith) (sym (c .in-Some .ensures tt .front)) (sym (c .in-Break-pair .ensures tt)))
+    ∙ c .loop-rest .inv .0 in
     rw (p .1, p .2) (record { outcome = e; told = pairs-break (c .args .bytes .now) _ (sym e); reads = λ ps l. e ∙ laid-pairs (c .args .bytes .now) ps l })
 
 pub loop-rest-again : need.loop-rest-again
@@ -46,10 +46,9 @@ loop-rest-again c =
     let went : c .push .result ≡ true = c .push .ensures .room ∙ lt-ltb (length ps) 4096 room in
     let more : items (c .push .last .self) ≡ ps ++ c .in-Continue-pair .pair ∷ [] = c .push .ensures .after ∙ ap (λ b. cond b (ps ++ c .in-Continue-pair .pair ∷ []) ps) went in
     let grown = ap length more ∙ length-push ps (c .in-Continue-pair .pair) in
-    let short = pair-short (c .loop-rest .at) (c .in-Some .record .kind) (c .in-Some .record .body .now) (c .in-Continue-pair .pair) (sym (c .in-Continue-pair .ensures tt)) in
-    (
+    let short = pair-short (c .loop-rest .at) (c .in-Some .record .kind) (c .in-Some .record .body .now) (c .in-Continue-pair .pair) (sym (c .in-Continue-pair .ensures tt)) in (
       ap (λ qs. gather qs (c .loop-rest .at + sizeOf (c .in-Some .record .body .now)) (records (c .in-Some .behind .now))) more
-      ∙ sym (gather-more ps (c .loop-rest .at) (c .loop-rest .rest .now) _ (c .in-Continue-pair .pair) room (sym (c .in-Some .ensures tt .front)) (sym (c .in-Continue-pair .ensures tt))) ∙ c .loop-rest .inv .0,
+          ∙ sym (gather-more ps (c .loop-rest .at) (c .loop-rest .rest .now) _ (c .in-Continue-pair .pair) room (sym (c .in-Some .ensures tt .front)) (sym (c .in-Continue-pair .ensures tt))) ∙ c .loop-rest .inv .0,
       omega arith,
     )
 

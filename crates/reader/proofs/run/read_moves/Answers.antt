@@ -24,8 +24,7 @@ loop-step-again c =
     let room : length ms < 4096 = omega arith in
     let went : c .push .result ≡ true = c .push .ensures .room ∙ lt-ltb (length ms) 4096 room in
     let now : items (c .push .last .self) ≡ ms ++ step ∷ [] = c .push .ensures .after ∙ ap (λ b. cond b (ms ++ step ∷ []) ms) went in
-    let grown = ap length now ∙ length-push ms step in
-    (
+    let grown = ap length now ∙ length-push ms step in (
       ap (λ xs. xs ++ movesIn (c .in-Some .behind .now)) now ∙ append-assoc ms (step ∷ []) (movesIn (c .in-Some .behind .now)) ∙ sym (ap (λ xs. ms ++ xs) (more .0)) ∙ c .loop-step .inv .0,
       omega arith,
     )

@@ -19,8 +19,7 @@ pub loop-rest-holds : need.loop-rest-holds
 unfolding opened
 loop-rest-holds c =
     let r = c .new-draft .ensures .row in
-    let s = c .new-draft .ensures .stage in
-    (
+    let s = c .new-draft .ensures .stage in (
       (λ i. follow (r i) (s i) 0 (records (c .args .bytes .now))),
       sym (λ i. sized (r i) (s i)),
       subst Keeps (sym r) (keeps-blank 1 0 (omega arith) (omega arith) (omega arith)),
@@ -37,8 +36,8 @@ returns-in-Break-take c =
     let going = sym (c .is-closed .ensures) ∙ c .loop-rest-test .taken in
     let here = records-next (c .loop-rest .rest .now) _ (sym (c .in-Some .ensures tt .front)) in
     rw (p .1, p .2) (
-      sym (follow-refused (c .loop-rest .draft .row) (c .loop-rest .draft .stage) (c .loop-rest .at) (c .in-Some .record .kind) (c .in-Some .record .body .now) (records (c .in-Some .behind .now)) _ going (sym (c .in-Break-take .ensures tt)))
-      ∙ sym (ap (follow (c .loop-rest .draft .row) (c .loop-rest .draft .stage) (c .loop-rest .at)) here) ∙ c .loop-rest .inv .0
+    sym (follow-refused (c .loop-rest .draft .row) (c .loop-rest .draft .stage) (c .loop-rest .at) (c .in-Some .record .kind) (c .in-Some .record .body .now) (records (c .in-Some .behind .now)) _ going (sym (c .in-Break-take .ensures tt)))
+    ∙ sym (ap (follow (c .loop-rest .draft .row) (c .loop-rest .draft .stage) (c .loop-rest .at)) here) ∙ c .loop-rest .inv .0
     )
 
 -- what the record that is taken in adds
@@ -57,10 +56,9 @@ pub loop-rest-again : need.loop-rest-again
 loop-rest-again c =
     let going = sym (c .is-closed .ensures) ∙ c .loop-rest-test .taken in
     let here = records-next (c .loop-rest .rest .now) _ (sym (c .in-Some .ensures tt .front)) in
-    let more = adds c in
-    (
+    let more = adds c in (
       sym (follow-more (c .loop-rest .draft .row) (c .loop-rest .draft .stage) (c .loop-rest .at) (c .in-Some .record .kind) (c .in-Some .record .body .now) (records (c .in-Some .behind .now)) (c .take .last .self .row, c .take .last .self .stage) going (sym (c .in-Continue-take .ensures tt)))
-      ∙ sym (ap (follow (c .loop-rest .draft .row) (c .loop-rest .draft .stage) (c .loop-rest .at)) here) ∙ c .loop-rest .inv .0,
+          ∙ sym (ap (follow (c .loop-rest .draft .row) (c .loop-rest .draft .stage) (c .loop-rest .at)) here) ∙ c .loop-rest .inv .0,
       more .0,
       more .1,
     )

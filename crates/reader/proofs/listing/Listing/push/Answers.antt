@@ -12,5 +12,5 @@ returns g c =
     let few = c .if-self-ge4096 .left in
     record {
       room = sym (ap (λ n. ltb n 4096) (length-take-le (self .count) (self .places) (omega arith)) ∙ lt-ltb (self .count) 4096 (omega arith));
-      after = take-more-set (self .places) (self .count) (c .args .item) (omega arith)
+      after = take-more-set (self .places) (self .count) (c .args .item) (omega arith);
     }

@@ -19,11 +19,11 @@ returns-in-Break-row c =
     let p = err-from-errBy (c .from-residual .result) (c .from-residual .ensures .1) in
     let was = sym (c .in-Break-row .ensures tt) in
     rw (p .1, p .2) (
-      record {
-        outcome = sym (ap (λ o. kept o (c .args .self .now .row)) was);
-        told = opened-breaks (c .args .bytes .now) _ was;
-        opens = λ row laid. absurd (err-ok (sym was ∙ laid-opened (c .args .bytes .now) row laid))
-      }
+    record {
+      outcome = sym (ap (λ o. kept o (c .args .self .now .row)) was);
+      told = opened-breaks (c .args .bytes .now) _ was;
+      opens = λ row laid. absurd (err-ok (sym was ∙ laid-opened (c .args .bytes .now) row laid));
+    }
     )
 
 pub returns : need.returns
@@ -32,5 +32,5 @@ returns c =
     record {
       outcome = sym (ap (λ o. kept o (c .args .self .now .row)) was);
       told = opened-laid (c .args .bytes .now) (c .in-Continue-row .row) was;
-      opens = λ row laid. (refl, ok-same (sym was ∙ laid-opened (c .args .bytes .now) row laid))
+      opens = λ row laid. (refl, ok-same (sym was ∙ laid-opened (c .args .bytes .now) row laid));
     }
