@@ -2,6 +2,7 @@
 mod lines;
 mod text;
 
+pub use text::Shown;
 pub use text::refused_text;
 pub use text::row_text;
-pub use text::table_text;
+pub use text::show_table;

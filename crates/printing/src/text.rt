@@ -2,7 +2,9 @@
 ghost use mathlib.Core.Path.{_≡_};
 ghost use mathlib.Core.List.{_++_};
 ghost use Rattle.std.specs.Of.String.{string-bytes};
+ghost use Rattle.std.specs.Results.{isOk};
 ghost use Rattle.std.specs.Vec.{made};
+ghost use Rattle.reader.specs.Table.{opened};
 ghost use Rattle.printing.specs.Text.{rowText, refusedText, tableText};
 use crate::lines::add_actions;
 use crate::lines::add_errors;
@@ -42,13 +44,28 @@ pub fn refused_text(heap: Global, number: u8, place: u32) -> Result<String, Allo
     format!(heap, "refused {number} at {place}\n")
 }
 
-// What some bytes lay out: the lines of their table, or the line of their refusal.
-pub fn table_text(heap: Global, bytes: &[u8]) -> Result<String, AllocError>
-    ensures { λ r. ⌜ made r (λ s. string-bytes s ≡ tableText (now (bytes .entry))) ⌝ }
+// What some bytes are shown as.
+#[derive(Drop)]
+pub struct Shown {
+    // Whether they lay out a table.
+    pub sound: bool,
+    // The lines of their table, or the line of their refusal.
+    pub text: String,
+}
+
+// Looks over the bytes of a table.
+pub fn show_table(heap: Global, bytes: &[u8]) -> Result<Shown, AllocError>
+    ensures { λ r. ⌜ made r (λ s. (s .sound ≡ isOk (opened (now (bytes .entry)))) × (string-bytes (s .text) ≡ tableText (now (bytes .entry)))) ⌝ }
 {
     let mut table = Table::resting();
     match table.open(bytes) {
-        Ok(()) => row_text(heap, table.row()),
-        Err(fault) => refused_text(heap, fault.number(), fault.place()),
+        Ok(()) => Ok(Shown {
+            sound: true,
+            text: row_text(heap, table.row())?,
+        }),
+        Err(fault) => Ok(Shown {
+            sound: false,
+            text: refused_text(heap, fault.number(), fault.place())?,
+        }),
     }
 }

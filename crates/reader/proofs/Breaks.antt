@@ -1,14 +1,14 @@
 -- A refusal points at the first record that breaks the layout.
 use mathlib.Core.Path.{_≡_, refl, sym, ap, subst, _∙_}
 use mathlib.Core.Bool.{Bool, true, false, cond}
-use mathlib.Core.Logic.{_⊎_, inl, inr, ⊎-elim}
+use mathlib.Core.Logic.{_⊎_, inl, inr}
 use mathlib.Core.List.{List, [], _∷_, _++_}
-use Prim.Native.Nat.{ℕ, _+_, _≤_, _<_}
+use Prim.Native.Nat.{ℕ, _+_}
 use native.Mathlib.Omega.{arith}
-use lib.Dec.{eqb, leb, ltb}
+use lib.Dec.{eqb, ltb}
 use Rattle.std.specs.declared.result.Result.{Result}
 use Rattle.std.specs.declared.result.Result.the-variants.{Ok, Err}
-use Rattle.std.proofs.shelf.Tests.{cases-bool, true≢false, false≢true}
+use Rattle.std.proofs.shelf.Tests.{cases-bool, false≢true}
 use Rattle.reader.specs.declared.fault.Fault as faults
 use Rattle.reader.specs.declared.fault.Fault.the-variants.{Cut, Kind, Length, Value, Repeated, Overfull, Trailing}
 use Rattle.reader.specs.declared.row.Row.{Row}
@@ -18,9 +18,9 @@ use Rattle.reader.specs.declared.stage.Stage.the-variants.{Head, Actions, Step
 use Rattle.reader.specs.Fault.{place}
 use Rattle.reader.specs.Record.{Records, none, cut, next, records, sizeOf, followed, sizes}
 use Rattle.reader.specs.Row.{blank, wayOf, errorAt, listed, told, declared, fitting}
-use Rattle.reader.specs.Draft.{withWay, withStep, withError, wayFrom, headed, acted, stepIn, stepped, failed, ended, due, staged, taken, entered, closed, follow}
+use Rattle.reader.specs.Draft.{withWay, withStep, withError, wayFrom, headed, acted, stepped, failed, ended, due, staged, taken, entered, closed, follow}
 use Rattle.reader.specs.Table.{opened}
-use Rattle.reader.specs.Layout.{Lays, Begins, Stray, Stands, Breaks, closing}
+use Rattle.reader.specs.Layout.{Begins, Stray, Stands, Breaks, closing}
 use Rattle.reader.proofs.Outcomes.{err-ok, err-same}
 use Rattle.reader.proofs.Follows.{follow-none, follow-cut, follow-refused, follow-more, follow-done, follow-behind-cut, follow-behind-next}
 use Rattle.reader.proofs.Parts.{follow-closing, follow-table}

@@ -1,24 +1,23 @@
 -- Things that may be added to a row in turn are those of a lawful content, and the row is its row.
-use mathlib.Core.Path.{_≡_, refl, sym, ap, subst, _∙_}
+use mathlib.Core.Path.{_≡_, refl, sym, ap, _∙_}
 use mathlib.Core.Bool.{Bool, true, false, cond, _&&_, _||_}
-use mathlib.Core.Logic.{_≢_, _⊎_, inl, inr, ⊎-elim}
+use mathlib.Core.Logic.{_≢_, _⊎_, ⊎-elim}
 use mathlib.Core.List.{List, [], _∷_, _++_}
 use Prim.Native.Nat.{ℕ, zero, suc, min, _+_, _-_, _≤_, _<_}
 use native.Mathlib.Omega.{arith}
-use lib.Dec.{eqb, leb, ltb}
-use lib.ListN.{length, getD, set, take, drop, replicate, length-set, length-append, length-replicate}
+use lib.Dec.{eqb, leb}
+use lib.ListN.{length, getD, set, take, replicate, length-set, length-append}
 use lib.Seq.{getD-set-same, getD-set-other}
 use Rattle.std.specs.shelf.Lists.{All}
-use Rattle.std.proofs.shelf.Lists.{take-more-set, take-at, set-at, append-assoc, append-nil, ext-getD}
-use Rattle.std.proofs.shelf.Tests.{cases-bool, cases-eq, cond-true, cond-false, and-from, and-parts, or-from, or-parts, or-left, or-right, eqb-true, eq-eqb, ne-eqb, false≢true, true≢false, le-leb}
+use Rattle.std.proofs.shelf.Lists.{take-more-set, set-at, append-assoc, append-nil}
+use Rattle.std.proofs.shelf.Tests.{cases-bool, cases-eq, cond-true, cond-false, and-from, and-parts, or-from, or-parts, or-left, or-right, eqb-true, eq-eqb, ne-eqb, true≢false}
 use Rattle.semantics.specs.declared.way.Way.{Way}
-use Rattle.semantics.specs.declared.way.Way.the-variants.{Absent, Input, Output}
+use Rattle.semantics.specs.declared.way.Way.the-variants.{Absent}
 use Rattle.reader.specs.declared.row.Row.{Row}
 use Rattle.reader.specs.declared.row.Step.{Step}
-use Rattle.reader.specs.Row.{unused, blank, wayOf, errorAt, listed, sameStep, told, declared, usable, fitting}
+use Rattle.reader.specs.Row.{unused, blank, wayOf, errorAt, listed, sameStep, told, declared, fitting}
 use Rattle.reader.specs.Draft.{withWay, withStep, withError}
-use Rattle.reader.specs.Layout.{Action, Content, Once, wayIn, fits, Lawful, member, tabled, rowOf}
-use Rattle.reader.proofs.Rows.{way-inside}
+use Rattle.reader.specs.Layout.{Action, Once, wayIn, member}
 use Rattle.reader.proofs.Keeps.{way-new, way-other}
 use Rattle.reader.proofs.Parts.{allWays, allSteps, allErrors, WaysFit, EachStepFits, EachErrorFits}
 

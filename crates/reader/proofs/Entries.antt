@@ -1,6 +1,6 @@
 -- What the records that a draft takes in look like, and what each makes of it.
 use mathlib.Core.Path.{_≡_, refl, sym, ap, _∙_}
-use mathlib.Core.Bool.{Bool, true, false, cond, _&&_}
+use mathlib.Core.Bool.{true, false, cond, _&&_}
 use mathlib.Core.Logic.{_⊎_, inl, inr, ⊎-elim}
 use mathlib.Core.List.{List, [], _∷_}
 use Prim.Native.Nat.{ℕ, _≤_, _<_}
@@ -8,16 +8,14 @@ use native.Mathlib.Omega.{arith}
 use lib.Dec.{eqb, leb, ltb}
 use Rattle.std.specs.declared.result.Result.{Result}
 use Rattle.std.specs.declared.result.Result.the-variants.{Ok, Err}
-use Rattle.std.proofs.shelf.Tests.{and-parts, and-from, leb-true, ltb-true, eqb-true, le-leb, lt-ltb, eq-eqb, ne-eqb, cases-bool, cases-eq, cond-true, cond-false}
-use Rattle.semantics.specs.declared.way.Way.{Way}
-use Rattle.semantics.specs.declared.way.Way.the-variants.{Absent, Input, Output}
+use Rattle.std.proofs.shelf.Tests.{and-parts, leb-true, ltb-true, eqb-true, eq-eqb, ne-eqb, cases-eq, cond-true, cond-false}
 use Rattle.reader.specs.declared.fault.Fault as faults
-use Rattle.reader.specs.declared.fault.Fault.the-variants.{Cut, Kind, Length, Value, Repeated, Overfull, Trailing}
+use Rattle.reader.specs.declared.fault.Fault.the-variants.{Kind, Value, Repeated, Overfull}
 use Rattle.reader.specs.declared.row.Row.{Row}
 use Rattle.reader.specs.declared.row.Step.{Step}
 use Rattle.reader.specs.declared.stage.Stage.{Stage}
 use Rattle.reader.specs.declared.stage.Stage.the-variants.{Head, Actions, Steps, Errors, Closed}
-use Rattle.reader.specs.Row.{blank, wayOf, errorAt, listed, told, declared, usable, fitting}
+use Rattle.reader.specs.Row.{blank, wayOf, errorAt, listed, told, declared, fitting}
 use Rattle.reader.specs.Draft.{withWay, withStep, withError, headed, wayFrom, acted, stepIn, stepped, failed, ended, due, staged, taken, entered}
 use Rattle.reader.proofs.Outcomes.{err-ok, ok-same, cond-ok, cond-not-ok}
 

@@ -1,8 +1,8 @@
 -- The records of a table, followed one by one.
 use mathlib.Core.Path.{_≡_, refl, sym, ap, subst, _∙_}
-use mathlib.Core.Bool.{Bool, true, false, cond}
+use mathlib.Core.Bool.{true, false}
 use mathlib.Core.Logic.{_⊎_, inl, inr, ⊎-elim}
-use mathlib.Core.List.{List, [], _∷_}
+use mathlib.Core.List.{List}
 use Prim.Native.Nat.{ℕ, _+_, _≤_, _<_}
 use native.Mathlib.Omega.{arith}
 use lib.ListN.{length}
@@ -12,12 +12,12 @@ use Rattle.std.specs.declared.result.Result.{Result}
 use Rattle.std.specs.declared.result.Result.the-variants.{Ok, Err}
 use Rattle.std.proofs.shelf.Tests.{cases-bool, cases-lt, cond-true, cond-false}
 use Rattle.reader.specs.declared.fault.Fault as faults
-use Rattle.reader.specs.declared.fault.Fault.the-variants.{Cut, Kind, Length, Value, Repeated, Overfull, Trailing}
+use Rattle.reader.specs.declared.fault.Fault.the-variants.{Cut, Trailing}
 use Rattle.reader.specs.declared.row.Row.{Row}
 use Rattle.reader.specs.declared.stage.Stage.{Stage}
 use Rattle.reader.specs.declared.stage.Stage.the-variants.{Head}
 use Rattle.reader.specs.Record.{Records, none, cut, next, front, records, sizeOf}
-use Rattle.reader.specs.Row.{blank, Facts}
+use Rattle.reader.specs.Row.{blank}
 use Rattle.reader.specs.Draft.{entered, closed, onward, follow}
 use Rattle.reader.specs.Table.{opened}
 use Rattle.reader.proofs.Outcomes.{err-ok, ok-same}

@@ -1,22 +1,22 @@
 -- Every record that is taken in keeps the facts of a table, and adds its bytes to what the content takes.
 use mathlib.Core.Path.{_≡_, refl, sym, ap, subst, _∙_}
-use mathlib.Core.Bool.{Bool, true, false, cond, _&&_, _||_}
-use mathlib.Core.Logic.{_≢_, _⊎_, inl, inr, ⊎-elim}
+use mathlib.Core.Bool.{Bool, true, false, cond, _&&_}
+use mathlib.Core.Logic.{_≢_, _⊎_, ⊎-elim}
 use mathlib.Core.List.{List, [], _∷_}
 use Prim.Native.Nat.{ℕ, zero, suc, _+_, _-_, _*_, _≤_, _<_}
 use native.Mathlib.Omega.{arith}
 use lib.Dec.{eqb, leb, ltb}
 use lib.ListN.{length, getD, set, replicate, length-set}
 use lib.Seq.{getD-set-same, getD-set-other}
-use Rattle.std.proofs.shelf.Tests.{and-parts, and-from, or-cases, or-left, or-right, eqb-true, leb-true, le-leb, cases-eq, cases-bool, cases-lt, cond-true, cond-false, both-ways}
+use Rattle.std.proofs.shelf.Tests.{and-parts, and-from, or-cases, or-left, or-right, eqb-true, leb-true, cases-eq, cases-bool, cond-false, both-ways}
 use Rattle.semantics.specs.declared.way.Way.{Way}
-use Rattle.semantics.specs.declared.way.Way.the-variants.{Absent, Input, Output}
+use Rattle.semantics.specs.declared.way.Way.the-variants.{Absent}
 use Rattle.reader.specs.declared.row.Row.{Row}
 use Rattle.reader.specs.declared.row.Step.{Step}
 use Rattle.reader.specs.declared.stage.Stage.{Stage}
 use Rattle.reader.specs.declared.stage.Stage.the-variants.{Head, Actions, Steps, Errors, Closed}
 use Rattle.reader.specs.Record.{sizeOf}
-use Rattle.reader.specs.Row.{unused, blank, wayOf, errorAt, declared, usable, fitting, Facts}
+use Rattle.reader.specs.Row.{unused, blank, wayOf, declared, usable, fitting, Facts}
 use Rattle.reader.specs.Draft.{withWay, withStep, withError, wayFrom, due}
 use Rattle.reader.proofs.Rows.{way-inside}
 use Rattle.reader.proofs.Entries.{Entry, is-head, is-action, is-step, is-error, is-end}

@@ -1,27 +1,25 @@
 -- Bytes open as a table exactly where they are the records of a lawful content.
 use mathlib.Core.Path.{_≡_, refl, sym, ap, subst, _∙_}
-use mathlib.Core.Bool.{Bool, true, false, cond, _&&_, _||_}
-use mathlib.Core.Logic.{_⊎_, inl, inr, ⊎-elim}
+use mathlib.Core.Bool.{Bool, true, false, _&&_, _||_}
 use mathlib.Core.List.{List, [], _∷_, _++_}
 use Prim.Native.Nat.{ℕ, zero, suc, _+_, _-_, _≤_, _<_}
 use native.Mathlib.Omega.{arith}
-use lib.Dec.{eqb, leb, ltb}
-use lib.ListN.{length, getD, set, replicate, length-set}
-use Rattle.std.specs.declared.result.Result.the-variants.{Ok, Err}
+use lib.Dec.{eqb, ltb}
+use lib.ListN.{length, getD, replicate, length-set}
+use Rattle.std.specs.declared.result.Result.the-variants.{Ok}
 use Rattle.std.specs.shelf.Lists.{All}
 use Rattle.std.proofs.shelf.Lists.{ext-getD}
-use Rattle.semantics.specs.declared.way.Way.{Way}
-use Rattle.semantics.specs.declared.way.Way.the-variants.{Absent, Input, Output}
+use Rattle.semantics.specs.declared.way.Way.the-variants.{Absent}
 use Rattle.reader.specs.declared.row.Row.{Row}
 use Rattle.reader.specs.declared.row.Step.{Step}
 use Rattle.reader.specs.declared.stage.Stage.the-variants.{Head}
 use Rattle.reader.specs.Record.{Records, records, next}
-use Rattle.reader.specs.Row.{unused, blank, wayOf, errorAt, declared, fitting}
+use Rattle.reader.specs.Row.{unused, blank, errorAt, declared, fitting}
 use Rattle.reader.specs.Draft.{withWay, withStep, withError, follow}
 use Rattle.reader.specs.Table.{opened}
-use Rattle.reader.specs.Layout.{Action, Content, Once, wayIn, fits, Lawful, recordsOf, tabled, member, rowOf, Lays, LaidOut}
+use Rattle.reader.specs.Layout.{Action, Content, Once, wayIn, fits, tabled, member, rowOf, Lays, LaidOut}
 use Rattle.reader.proofs.Rows.{way-inside}
-use Rattle.reader.proofs.Parts.{allWays, allSteps, allErrors, WaysFit, EachStepFits, EachErrorFits, TableTold, table-told, follow-table}
+use Rattle.reader.proofs.Parts.{allWays, allSteps, allErrors, WaysFit, EachStepFits, EachErrorFits, table-told, follow-table}
 use Rattle.reader.proofs.Contents.{Sized, ways-once, once-ways, ways-in, fresh-blank, steps-once, once-steps, untold-none, steps-placed, errors-once, once-errors, errors-in}
 
 -- what the ways, the steps and the errors of a row leave as it was

@@ -1,16 +1,15 @@
 -- Bytes are read as pairs exactly where their records tell them.
 use mathlib.Core.Path.{_≡_, refl, sym, ap, subst, _∙_}
-use mathlib.Core.Bool.{Bool, true, false, cond}
 use mathlib.Core.Logic.{_⊎_, inl, inr, ⊎-elim}
 use mathlib.Core.List.{List, [], _∷_, _++_}
-use Prim.Native.Nat.{ℕ, suc, _+_, _≤_, _<_}
+use Prim.Native.Nat.{ℕ, _+_, _≤_, _<_}
 use native.Mathlib.Omega.{arith}
 use lib.Dec.{eqb, ltb}
 use lib.ListN.{length}
 use Rattle.std.specs.declared.result.Result.{Result}
 use Rattle.std.specs.declared.result.Result.the-variants.{Ok, Err}
 use Rattle.std.proofs.shelf.Lists.{append-nil, append-assoc, length-push}
-use Rattle.std.proofs.shelf.Tests.{cases-bool, cases-eq, cond-true, cond-false, eqb-true, eqb-false, eq-eqb, ne-eqb, ltb-true, ltb-false, lt-ltb}
+use Rattle.std.proofs.shelf.Tests.{cases-bool, cases-eq, cond-true, cond-false, eq-eqb, ne-eqb, ltb-true, ltb-false, lt-ltb}
 use Rattle.reader.specs.declared.fault.Fault as faults
 use Rattle.reader.specs.declared.fault.Fault.the-variants.{Cut, Kind, Length}
 use Rattle.reader.specs.declared.evidence.EvidenceFault as evidence
@@ -20,7 +19,6 @@ use Rattle.reader.specs.Fault.{place}
 use Rattle.reader.specs.Record.{Records, none, cut, next, records, sizeOf, followed, sizes}
 use Rattle.reader.specs.Pairs.{pairFrom, pairSized, pairOf, joined, gather, pairsIn}
 use Rattle.reader.specs.Evidence.{Tells, AllTell, PairsLaid, TellsNone, PairsStand, PairsBreak}
-use Rattle.reader.proofs.Outcomes.{err-ok, ok-same, err-same}
 use Rattle.reader.proofs.Breaks.{cut-some, next-some}
 
 -- what reading one record says of it

@@ -1,7 +1,6 @@
 -- The records of a certificate, one by one.
 use mathlib.Core.Path.{_≡_, refl, sym, ap, _∙_}
-use mathlib.Core.Bool.{Bool, true, false, cond}
-use mathlib.Core.Logic.{_⊎_, inl, inr, ⊎-elim}
+use mathlib.Core.Logic.{_⊎_, ⊎-elim}
 use mathlib.Core.List.{List, [], _∷_, _++_}
 use Prim.Native.Nat.{ℕ, _+_, _*_, _≤_, _<_}
 use native.Mathlib.Omega.{arith}
@@ -9,7 +8,6 @@ use lib.Dec.{eqb, ltb}
 use lib.ListN.{length, getD}
 use Rattle.std.specs.declared.option.Option.{Option}
 use Rattle.std.specs.declared.option.Option.the-variants.{Some, None}
-use Rattle.std.specs.declared.result.Result.{Result}
 use Rattle.std.specs.declared.result.Result.the-variants.{Ok, Err}
 use Rattle.std.proofs.shelf.Tests.{cond-true, cond-false, eqb-true, eq-eqb, cases-eq, ne-eqb, lt-ltb, le-ltb}
 use Rattle.reader.specs.declared.fault.Fault.{Fault}
@@ -17,9 +15,9 @@ use Rattle.reader.specs.declared.fault.Fault.the-variants.{Cut, Kind, Length}
 use Rattle.reader.specs.declared.evidence.EvidenceFault as faults
 use Rattle.reader.specs.declared.evidence.EvidenceFault.the-variants.{Record, Pairs}
 use Rattle.reader.specs.declared.pair.Pair.{Pair}
-use Rattle.reader.specs.Record.{Records, none, cut, next, front, records, sizeOf}
-use Rattle.reader.specs.Pairs.{pairFrom, pairSized, pairOf, joined, gather, pairsIn}
-use Rattle.reader.proofs.Outcomes.{err-ok, cond-ok}
+use Rattle.reader.specs.Record.{front, records, sizeOf}
+use Rattle.reader.specs.Pairs.{pairFrom, pairSized, pairOf, joined, gather}
+use Rattle.reader.proofs.Outcomes.{cond-ok}
 use Rattle.reader.proofs.Records.{records-none, records-cut, records-next}
 
 pub narrow-is : (at : ℕ) (body : List ℕ) (p s : ℕ) → length body ≡ 4 → p ≡ getD body 0 0 + getD body 1 0 * 256 → s ≡ getD body 2 0 + getD body 3 0 * 256 → Ok (record { state = p; set = s }) ≡ pairSized 4 at body
@@ -39,18 +37,18 @@ pub wide-is : (at : ℕ) (body : List ℕ) (p s : ℕ) → length body ≡ 10 �
 wide-is at [] p s h ep es = absurd (omega arith)
 wide-is at (a ∷ []) p s h ep es = absurd (omega arith)
 wide-is at (a ∷ b ∷ []) p s h ep es = absurd (omega arith)
-wide-is at (a ∷ b ∷ c0 ∷ []) p s h ep es = absurd (omega arith)
-wide-is at (a ∷ b ∷ c0 ∷ c1 ∷ []) p s h ep es = absurd (omega arith)
-wide-is at (a ∷ b ∷ c0 ∷ c1 ∷ c2 ∷ []) p s h ep es = absurd (omega arith)
-wide-is at (a ∷ b ∷ c0 ∷ c1 ∷ c2 ∷ c3 ∷ []) p s h ep es = absurd (omega arith)
-wide-is at (a ∷ b ∷ c0 ∷ c1 ∷ c2 ∷ c3 ∷ c4 ∷ []) p s h ep es = absurd (omega arith)
-wide-is at (a ∷ b ∷ c0 ∷ c1 ∷ c2 ∷ c3 ∷ c4 ∷ c5 ∷ []) p s h ep es = absurd (omega arith)
-wide-is at (a ∷ b ∷ c0 ∷ c1 ∷ c2 ∷ c3 ∷ c4 ∷ c5 ∷ c6 ∷ []) p s h ep es = absurd (omega arith)
-wide-is at (a ∷ b ∷ c0 ∷ c1 ∷ c2 ∷ c3 ∷ c4 ∷ c5 ∷ c6 ∷ c7 ∷ []) p s h ep es =
+wide-is at (a ∷ b ∷ m0 ∷ []) p s h ep es = absurd (omega arith)
+wide-is at (a ∷ b ∷ m0 ∷ m1 ∷ []) p s h ep es = absurd (omega arith)
+wide-is at (a ∷ b ∷ m0 ∷ m1 ∷ m2 ∷ []) p s h ep es = absurd (omega arith)
+wide-is at (a ∷ b ∷ m0 ∷ m1 ∷ m2 ∷ m3 ∷ []) p s h ep es = absurd (omega arith)
+wide-is at (a ∷ b ∷ m0 ∷ m1 ∷ m2 ∷ m3 ∷ m4 ∷ []) p s h ep es = absurd (omega arith)
+wide-is at (a ∷ b ∷ m0 ∷ m1 ∷ m2 ∷ m3 ∷ m4 ∷ m5 ∷ []) p s h ep es = absurd (omega arith)
+wide-is at (a ∷ b ∷ m0 ∷ m1 ∷ m2 ∷ m3 ∷ m4 ∷ m5 ∷ m6 ∷ []) p s h ep es = absurd (omega arith)
+wide-is at (a ∷ b ∷ m0 ∷ m1 ∷ m2 ∷ m3 ∷ m4 ∷ m5 ∷ m6 ∷ m7 ∷ []) p s h ep es =
     let x : p ≡ a + 256 * (b + 256 * 0) = omega arith in
-    let y : s ≡ c0 + 256 * (c1 + 256 * (c2 + 256 * (c3 + 256 * (c4 + 256 * (c5 + 256 * (c6 + 256 * (c7 + 256 * 0))))))) = omega arith in
+    let y : s ≡ m0 + 256 * (m1 + 256 * (m2 + 256 * (m3 + 256 * (m4 + 256 * (m5 + 256 * (m6 + 256 * (m7 + 256 * 0))))))) = omega arith in
     λ i. Ok (record { state = x i; set = y i })
-wide-is at (a ∷ b ∷ c0 ∷ c1 ∷ c2 ∷ c3 ∷ c4 ∷ c5 ∷ c6 ∷ c7 ∷ e ∷ r) p s h ep es = absurd (omega arith)
+wide-is at (a ∷ b ∷ m0 ∷ m1 ∷ m2 ∷ m3 ∷ m4 ∷ m5 ∷ m6 ∷ m7 ∷ e ∷ r) p s h ep es = absurd (omega arith)
 
 -- a pair's record takes at most 14 bytes
 pub pair-short : (at kind : ℕ) (body : List ℕ) (p : Pair) → pairOf at kind body ≡ Ok p → length body ≤ 10

@@ -1,26 +1,26 @@
 -- A table's records, part by part: what following them gives.
-use mathlib.Core.Path.{_≡_, refl, sym, ap, subst, _∙_}
+use mathlib.Core.Path.{_≡_, refl, sym, ap, _∙_}
 use mathlib.Core.Bool.{Bool, true, false, cond, _&&_}
-use mathlib.Core.Logic.{_⊎_, inl, inr, ⊎-elim}
-use mathlib.Core.List.{List, [], _∷_, _++_}
-use Prim.Native.Nat.{ℕ, zero, suc, _+_, _-_, _≤_, _<_}
+use mathlib.Core.Logic.{_⊎_, ⊎-elim}
+use mathlib.Core.List.{List, [], _∷_}
+use Prim.Native.Nat.{ℕ, _+_, _≤_, _<_}
 use native.Mathlib.Omega.{arith}
 use lib.Dec.{eqb, leb, ltb}
 use Rattle.std.specs.declared.result.Result.{Result}
 use Rattle.std.specs.declared.result.Result.the-variants.{Ok, Err}
-use Rattle.std.proofs.shelf.Tests.{cases-bool, cond-true, cond-false, and-from, and-parts, le-leb, leb-true, lt-ltb, eqb-true, eq-eqb, ne-eqb, cases-eq, false≢true}
+use Rattle.std.proofs.shelf.Tests.{cond-true, cond-false, and-from, le-leb, lt-ltb, ne-eqb, cases-eq, false≢true}
 use Rattle.semantics.specs.declared.way.Way.{Way}
 use Rattle.semantics.specs.declared.way.Way.the-variants.{Absent, Input, Output}
 use Rattle.semantics.specs.Way.{number}
 use Rattle.reader.specs.declared.fault.Fault as faults
-use Rattle.reader.specs.declared.fault.Fault.the-variants.{Cut, Kind, Length, Value, Repeated, Overfull, Trailing}
+use Rattle.reader.specs.declared.fault.Fault.the-variants.{Kind, Value, Repeated, Overfull}
 use Rattle.reader.specs.declared.row.Row.{Row}
 use Rattle.reader.specs.declared.row.Step.{Step}
 use Rattle.reader.specs.declared.stage.Stage.{Stage}
 use Rattle.reader.specs.declared.stage.Stage.the-variants.{Head, Actions, Steps, Errors, Closed}
 use Rattle.reader.specs.Record.{Records, none, cut, next, sizeOf}
-use Rattle.reader.specs.Row.{blank, wayOf, errorAt, listed, told, declared, usable, fitting}
-use Rattle.reader.specs.Draft.{withWay, withStep, withError, wayFrom, headed, acted, stepIn, stepped, failed, ended, due, staged, taken, entered, closed, onward, follow}
+use Rattle.reader.specs.Row.{blank, wayOf, errorAt, listed, told, declared, fitting}
+use Rattle.reader.specs.Draft.{withWay, withStep, withError, wayFrom, headed, acted, stepIn, failed, due, staged, taken, entered, closed, onward, follow}
 use Rattle.reader.specs.Layout.{Action, telling, actionBody, stepBody, errorBody, closing}
 use Rattle.reader.proofs.Outcomes.{err-ok, ok-same}
 use Rattle.reader.proofs.Entries.{Entry, entry, is-head, is-action, is-step, is-error, is-end}

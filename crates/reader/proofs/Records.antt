@@ -1,7 +1,7 @@
 -- The laws of cutting bytes into records.
 use mathlib.Core.Path.{_≡_, refl, sym, ap, _∙_}
-use mathlib.Core.Bool.{Bool, true, false, cond}
-use mathlib.Core.Logic.{_⊎_, inl, inr, ⊎-elim}
+use mathlib.Core.Bool.{true, false, cond}
+use mathlib.Core.Logic.{_⊎_, ⊎-elim}
 use mathlib.Core.List.{List, [], _∷_, _++_}
 use Prim.Native.Nat.{ℕ, zero, suc, _+_, _*_, _-_, _/_, _%_, _≤_, _<_}
 use native.Mathlib.Omega.{arith}
@@ -11,8 +11,8 @@ use lib.Seq.{take-all}
 use Rattle.std.specs.declared.option.Option.{Option}
 use Rattle.std.specs.declared.option.Option.the-variants.{Some, None}
 use Rattle.std.proofs.shelf.Lists.{take-at, drop-at}
-use Rattle.std.proofs.shelf.Tests.{le-leb, lt-leb, leb-true, cases-bool}
-use Rattle.reader.specs.Record.{bodied, front, before, upTo, records, Records, none, cut, next, written, ReadBack}
+use Rattle.std.proofs.shelf.Tests.{le-leb, leb-true, cases-bool}
+use Rattle.reader.specs.Record.{bodied, front, before, upTo, records, none, cut, next, written, ReadBack}
 
 -- a record that stands in front takes at least four bytes
 bodied-shorter : (n kind : ℕ) (bytes : List ℕ) (t : ℕ × List ℕ × List ℕ) → bodied n kind bytes ≡ Some t → length (t .1) + length (t .2) ≡ length bytes
@@ -94,18 +94,6 @@ front-is (a ∷ b ∷ c ∷ d ∷ bytes) kind n body rest h en ek l eb er =
     let parts : Some (kind, body, rest) ≡ Some (c + d * 256, take n bytes, drop n bytes) = λ i. Some (ek i, body-is i, rest-is i) in
     let tested : bodied n (c + d * 256) bytes ≡ Some (c + d * 256, take n bytes, drop n bytes) = ap (λ b. cond b (Some (c + d * 256, take n bytes, drop n bytes)) None) test in
     parts ∙ sym tested ∙ ap (λ m. bodied m (c + d * 256) bytes) en
-
-pub front-short : (bytes : List ℕ) (n : ℕ) → 4 ≤ length bytes → n ≡ getD bytes 0 0 + getD bytes 1 0 * 256 → length (take (length bytes - 4) (drop 4 bytes)) < n → None ≡ front bytes
-front-short [] n h en l = absurd (omega arith)
-front-short (a ∷ []) n h en l = absurd (omega arith)
-front-short (a ∷ b ∷ []) n h en l = absurd (omega arith)
-front-short (a ∷ b ∷ c ∷ []) n h en l = absurd (omega arith)
-front-short (a ∷ b ∷ c ∷ d ∷ bytes) n h en l =
-    let whole : take (length (a ∷ b ∷ c ∷ d ∷ bytes) - 4) bytes ≡ bytes = take-all _ bytes (omega arith) in
-    let short : length bytes < n = rw whole at l in
-    let test : leb n (length bytes) ≡ false = lt-leb n (length bytes) short in
-    let tested : bodied n (c + d * 256) bytes ≡ None = ap (λ b. cond b (Some (c + d * 256, take n bytes, drop n bytes)) None) test in
-    sym tested ∙ ap (λ m. bodied m (c + d * 256) bytes) en
 
 -- a record that is written stands in front
 pub read-back : ReadBack

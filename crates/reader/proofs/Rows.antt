@@ -1,13 +1,10 @@
 -- The laws of what a row tells.
-use mathlib.Core.Path.{_≡_, refl, sym, ap, _∙_}
-use mathlib.Core.Bool.{Bool, true, false, cond}
-use mathlib.Core.Logic.{_⊎_, inl, inr, ⊎-elim}
-use Prim.Native.Nat.{ℕ, _-_, _≤_, _<_}
-use native.Mathlib.Omega.{arith}
+use mathlib.Core.Path.{_≡_, ap}
+use mathlib.Core.Bool.{cond}
+use Prim.Native.Nat.{ℕ, _-_, _≤_}
 use lib.Dec.{leb}
-use lib.ListN.{length, getD}
-use Rattle.semantics.specs.declared.way.Way.{Way}
-use Rattle.semantics.specs.declared.way.Way.the-variants.{Absent, Input, Output}
+use lib.ListN.{getD}
+use Rattle.semantics.specs.declared.way.Way.the-variants.{Absent}
 use Rattle.std.proofs.shelf.Tests.{le-leb, and-from}
 use Rattle.reader.specs.declared.row.Row.{Row}
 use Rattle.reader.specs.Row.{wayOf}

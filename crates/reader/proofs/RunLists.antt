@@ -1,6 +1,6 @@
 -- Bytes are read as a run exactly where they are one record that tells it.
 use mathlib.Core.Path.{_≡_, refl, sym, ap, subst, _∙_}
-use mathlib.Core.Bool.{Bool, true, false, cond}
+use mathlib.Core.Bool.{cond}
 use mathlib.Core.Logic.{_⊎_, inl, inr, ⊎-elim}
 use mathlib.Core.List.{List, [], _∷_}
 use Prim.Native.Nat.{ℕ, zero, suc, _+_, _*_, _/_, _%_, _≤_, _<_}
@@ -12,16 +12,14 @@ use Rattle.std.specs.declared.option.Option.the-variants.{Some, None}
 use Rattle.std.specs.declared.result.Result.{Result}
 use Rattle.std.specs.declared.result.Result.the-variants.{Ok, Err}
 use Rattle.std.proofs.shelf.Tests.{cases-lt, cond-true, cond-both, eqb-true, eqb-false, eq-eqb, leb-true, leb-false, le-leb}
-use Rattle.reader.specs.declared.fault.Fault.the-variants.{Cut, Kind, Length, Value, Trailing}
+use Rattle.reader.specs.declared.fault.Fault.the-variants.{Kind, Length, Trailing}
 use Rattle.reader.specs.declared.evidence.EvidenceFault.{EvidenceFault}
 use Rattle.reader.specs.declared.evidence.EvidenceFault.the-variants.{Record, Moves}
 use Rattle.reader.specs.declared.run.Ending.{Ending}
 use Rattle.reader.specs.declared.run.Move.{Move}
-use Rattle.reader.specs.Number.{little}
 use Rattle.reader.specs.Record.{Records, none, cut, next, front, records}
 use Rattle.reader.specs.Run.{endingOf, movesIn, Told, alone, moved, embodied, recorded, runIn}
-use Rattle.reader.specs.Evidence.{MovesTold, RunLaid, Embodies, RunStands, RunBreaks}
-use Rattle.reader.proofs.Outcomes.{err-ok, ok-same, cond-ok}
+use Rattle.reader.specs.Evidence.{MovesTold, RunLaid, RunStands, RunBreaks}
 use Rattle.reader.proofs.Records.{records-none, records-cut, records-next}
 use Rattle.reader.proofs.Breaks.{cut-some, next-some}
 

@@ -3,7 +3,7 @@
 -- due stage kind                           may a record of this kind stand at this stage?
 -- entered row stage at kind body           the row and the stage after a record that stands at an offset, or its fault
 -- follow row stage at rs                   the table that the records rs, from an offset on, make of a row, or the first fault
-use mathlib.Core.Bool.{Bool, true, false, cond, not, _&&_, _||_}
+use mathlib.Core.Bool.{Bool, true, false, cond, _&&_}
 use mathlib.Core.List.{List, [], _∷_}
 use Prim.Native.Nat.{ℕ, _+_, _-_}
 use lib.Dec.{eqb, leb, ltb}
@@ -19,7 +19,7 @@ use Rattle.reader.specs.declared.row.Step.{Step}
 use Rattle.reader.specs.declared.stage.Stage.{Stage}
 use Rattle.reader.specs.declared.stage.Stage.the-variants.{Head, Actions, Steps, Errors, Closed}
 use Rattle.reader.specs.Record.{Records, none, cut, next, sizeOf}
-use Rattle.reader.specs.Row.{blank, wayOf, errorAt, listed, told, declared, usable, fitting}
+use Rattle.reader.specs.Row.{blank, wayOf, errorAt, listed, told, declared, fitting}
 
 -- the row with one thing more
 abbrev pub withWay : Row → ℕ → Way → Row

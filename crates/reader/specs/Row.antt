@@ -7,7 +7,7 @@
 -- usable r a      may action a stand in a step: is it internal, or declared?
 -- Facts r         what every table keeps
 use mathlib.Core.Path.{_≡_}
-use mathlib.Core.Bool.{Bool, true, false, cond, not, _&&_, _||_}
+use mathlib.Core.Bool.{Bool, true, false, cond, _&&_, _||_}
 use mathlib.Core.List.{List, [], _∷_}
 use Prim.Native.Nat.{ℕ, _-_, min, _<_, _≤_}
 use lib.Dec.{eqb, leb, ltb}

@@ -1,6 +1,6 @@
 // A table while its records come in.
 ghost use mathlib.Core.Path.{_≡_};
-ghost use Prim.Native.Nat.{ℕ, _+_, _≤_};
+ghost use Prim.Native.Nat.{_≤_};
 ghost use Rattle.reader.specs.Row.{blank};
 ghost use Rattle.reader.specs.Draft.{headed, acted, stepped, failed, ended, entered, staged, reached, closed};
 ghost use Rattle.reader.specs.declared.stage.Stage.the-variants.{Head as AtHead, Actions as AtActions, Steps as AtSteps, Errors as AtErrors, Closed as AtClosed};

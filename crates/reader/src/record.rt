@@ -17,10 +17,10 @@ pub fn split(bytes: &[u8]) -> Option<(Record<'_>, &[u8])>
     ensures front { λ r. ⌜ mapped (λ t. (t .0 .kind, now (t .0 .body), now (t .1))) r ≡ front (now (bytes .entry)) ⌝ }
     ensures short { λ r. ⌜ BySome r (Unit {0}) (λ t. length (now (t .0 .body)) < 65536) ⌝ }
 {
-    let [l0, l1, k0, k1, rest @ ..] = bytes else {
+    let [n0, n1, k0, k1, rest @ ..] = bytes else {
         return None;
     };
-    let length = usize::from(u16::from_le_bytes([*l0, *l1]));
+    let length = usize::from(u16::from_le_bytes([*n0, *n1]));
     let kind = u16::from_le_bytes([*k0, *k1]);
     if rest.len() < length {
         return None;

@@ -1,7 +1,5 @@
 // The content of a table laid down plainly, with no promise about it.
 ghost use mathlib.Core.Path.{_≡_};
-ghost use Prim.Native.Nat.{ℕ, _+_, _-_, _<_, _≤_};
-ghost use lib.ListN.{length, getD, set, take, replicate};
 ghost use Rattle.reader.specs.Row.{blank as blankOf, wayOf, errorAt, sameStep, usable, fitting, told, listed as listedOf};
 use semantics::Way;
 use semantics::WayPartialEq;

@@ -80,13 +80,13 @@ pub fn demo(rt: &LibcRuntime) -> io::Result<()> {
     tell_records(rt)?;
     rt.print(FIRST)?;
     rt.print(LINES)?;
-    show(rt, &STATION)?;
+    let _ = show(rt, &STATION)?;
     rt.print(READING)?;
     rt.print(DAMAGED)?;
     show_damaged(rt)?;
     rt.print(DAMAGED_MEANS)?;
     rt.print(CUT)?;
-    show(rt, &STATION[0..34])?;
+    let _ = show(rt, &STATION[0..34])?;
     rt.print(CUT_MEANS)
 }
 
@@ -118,5 +118,6 @@ fn hexadecimal(heap: Global, bytes: &[u8]) -> Result<String, AllocError> {
 fn show_damaged(rt: &LibcRuntime) -> io::Result<()> {
     let mut damaged = STATION;
     damaged[31] = 7;
-    show(rt, &damaged)
+    let _ = show(rt, &damaged)?;
+    Ok(())
 }

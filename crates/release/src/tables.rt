@@ -1,11 +1,8 @@
 // The tables of some files.
-ghost use mathlib.Core.Path.{_≡_};
-ghost use Rattle.std.specs.Results.{isOk};
-ghost use Rattle.reader.specs.Table.{opened};
 use crate::help::failure;
 use crate::help::usage;
-use printing::table_text;
-use reader::Table;
+use printing::Shown;
+use printing::show_table;
 use std::env::Args;
 use std::fs;
 use std::io;
@@ -27,10 +24,7 @@ pub fn tables(rt: &LibcRuntime, files: Args) -> io::Result<()> {
 // Shows a file, and tells whether it holds a table.
 fn show_file(rt: &LibcRuntime, file: &str) -> io::Result<bool> {
     match fs::read(rt, file) {
-        Ok(bytes) => {
-            show(rt, bytes.as_slice())?;
-            Ok(is_table(bytes.as_slice()))
-        }
+        Ok(bytes) => show(rt, bytes.as_slice()),
         Err(reason) => {
             println!(rt, "{file}: cannot be read: {reason}")?;
             Ok(false)
@@ -38,16 +32,9 @@ fn show_file(rt: &LibcRuntime, file: &str) -> io::Result<bool> {
     }
 }
 
-// Shows what some bytes lay out.
-pub fn show(rt: &LibcRuntime, bytes: &[u8]) -> io::Result<()> {
-    let text = table_text(rt.alloc(), bytes)?;
-    rt.print(text)
-}
-
-// Whether some bytes lay out a table.
-fn is_table(bytes: &[u8]) -> bool
-    ensures { λ r. ⌜ r ≡ isOk (opened (now (bytes .entry))) ⌝ }
-{
-    let mut table = Table::resting();
-    table.open(bytes).is_ok()
+// Shows what some bytes lay out, and tells whether it is a table.
+pub fn show(rt: &LibcRuntime, bytes: &[u8]) -> io::Result<bool> {
+    let Shown { sound, text } = show_table(rt.alloc(), bytes)?;
+    rt.print(text)?;
+    Ok(sound)
 }

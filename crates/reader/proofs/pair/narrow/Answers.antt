@@ -1,6 +1,4 @@
 use borrow.Author.Needs.{needs}
-use mathlib.Core.Path.{_∙_}
-use native.Mathlib.Omega.{arith}
 use Rattle.reader.proofs.Pairs.{narrow-is}
 use Rattle.reader.proofs.pair.narrow.Needs as need
 

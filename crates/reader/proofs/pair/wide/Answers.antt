@@ -1,5 +1,4 @@
 use borrow.Author.Needs.{needs}
-use native.Mathlib.Omega.{arith}
 use Rattle.reader.proofs.Pairs.{wide-is}
 use Rattle.reader.proofs.pair.wide.Needs as need
 

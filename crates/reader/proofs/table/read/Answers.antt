@@ -1,13 +1,11 @@
-use mathlib.Core.Path.{_≡_, refl, sym, ap, subst, _∙_}
-use mathlib.Core.Bool.{true, false}
-use Prim.Native.Nat.{_≤_, _+_}
+use mathlib.Core.Path.{_≡_, sym, ap, subst, _∙_}
+use Prim.Native.Nat.{_+_}
 use native.Mathlib.Omega.{arith}
 use lib.ListN.{length}
 use Rattle.std.proofs.shelf.Results.{err-from-errBy}
 use Rattle.std.proofs.shelf.Tests.{eqb-true, eqb-false}
-use Rattle.std.specs.declared.result.Result.the-variants.{Ok, Err}
 use Rattle.reader.specs.Record.{records, sizeOf}
-use Rattle.reader.specs.Draft.{follow, entered, closed}
+use Rattle.reader.specs.Draft.{follow}
 use Rattle.reader.specs.Table.{opened}
 use Rattle.reader.proofs.Records.{records-none, records-next}
 use Rattle.reader.proofs.Entries.{entry}

@@ -1,8 +1,6 @@
-use borrow.Author.Needs.{needs}
-use mathlib.Core.Path.{_≡_, refl, sym, ap, _∙_}
+use mathlib.Core.Path.{refl, sym, ap, _∙_}
 use Rattle.std.proofs.shelf.Results.{err-from-errBy}
-use Rattle.std.specs.declared.result.Result.the-variants.{Ok, Err}
-use Rattle.reader.specs.Table.{opened, kept}
+use Rattle.reader.specs.Table.{kept}
 use Rattle.reader.proofs.Outcomes.{err-ok, ok-same}
 use Rattle.reader.proofs.Follows.{opened-keeps}
 use Rattle.reader.proofs.Layouts.{opened-laid, laid-opened}
