@@ -54,28 +54,40 @@ fn narrow_and_wide_pairs() -> Result<(), Fail> {
     )
 }
 
+// Bytes with the number and the place of their refusal as pairs.
+const NO_PAIRS: [(&[u8], u8, u32); 5] = [
+    // a head and a body that are cut
+    (b"\x04\x00\x10", 1, 0),
+    (
+        b"\x04\x00\x10\x00\x00\x00\x01\x00\x04\x00\x10\x00\x00\x00\x01",
+        1,
+        8,
+    ),
+    // another kind
+    (
+        b"\x04\x00\x10\x00\x00\x00\x01\x00\x04\x00\x12\x00\x00\x00\x01\x00",
+        2,
+        8,
+    ),
+    // a wide pair as short as a narrow one, and a narrow pair as long as a wide one
+    (b"\x04\x00\x11\x00\x00\x00\x01\x00", 3, 0),
+    (
+        b"\x0a\x00\x10\x00\x00\x00\x01\x02\x03\x04\x05\x06\x07\x80",
+        3,
+        0,
+    ),
+];
+
 #[test]
-fn pair_refusals() -> Result<(), Fail> {
+fn refused_pairs() -> Result<(), Fail> {
     check_eq(pairs_verdict(b""), (0, 0, 0))?;
-    check_eq(pairs_verdict(b"\x04\x00\x10"), (0, 1, 0))?;
-    check_eq(
-        pairs_verdict(b"\x04\x00\x10\x00\x00\x00\x01\x00\x04\x00\x10\x00\x00\x00\x01"),
-        (0, 1, 8),
-    )?;
-    check_eq(
-        pairs_verdict(b"\x04\x00\x10\x00\x00\x00\x01\x00\x04\x00\x12\x00\x00\x00\x01\x00"),
-        (0, 2, 8),
-    )?;
-    check_eq(
-        pairs_verdict(b"\x04\x00\x11\x00\x00\x00\x01\x00"),
-        (0, 3, 0),
-    )?;
-    check_eq(
-        pairs_verdict(b"\x0a\x00\x10\x00\x00\x00\x01\x02\x03\x04\x05\x06\x07\x80"),
-        (0, 3, 0),
-    )
+    for (bytes, number, place) in NO_PAIRS {
+        check_eq(pairs_verdict(bytes), (0, number, place))?;
+    }
+    Ok(())
 }
 
+// The same pair n times.
 fn many_pairs(heap: Global, n: u16) -> Result<Vec<u8>, Fail> {
     let mut bytes = Vec::new(heap);
     for _ in 0..n {
@@ -122,24 +134,34 @@ fn runs_and_endings() -> Result<(), Fail> {
     check_eq(run_verdict(b"\x02\x00\x12\x00\x02\x00"), (0, 0, 0))
 }
 
+// Bytes with the number and the place of their refusal as a run.
+const NO_RUN: [(&[u8], u8, u32); 10] = [
+    // nothing, and a body that is cut
+    (b"", 1, 0),
+    (b"\x05\x00\x12\x00\x01\x00\x01\x00", 1, 0),
+    // another kind
+    (b"\x02\x00\x11\x00\x01\x00", 2, 0),
+    // no input, and a move that is not whole
+    (b"\x01\x00\x12\x00\x01", 3, 0),
+    (b"\x04\x00\x12\x00\x01\x00\x01\x00", 3, 0),
+    // endings 0 and 4, and an input at endings that have none
+    (b"\x02\x00\x12\x00\x00\x00", 4, 0),
+    (b"\x02\x00\x12\x00\x04\x00", 4, 0),
+    (b"\x02\x00\x12\x00\x01\x01", 4, 0),
+    (b"\x02\x00\x12\x00\x02\x01", 4, 0),
+    // a byte behind the run
+    (b"\x05\x00\x12\x00\x01\x00\x01\x00\x00\x00", 7, 9),
+];
+
 #[test]
-fn run_refusals() -> Result<(), Fail> {
-    check_eq(run_verdict(b""), (0, 1, 0))?;
-    check_eq(run_verdict(b"\x05\x00\x12\x00\x01\x00\x01\x00"), (0, 1, 0))?;
-    check_eq(run_verdict(b"\x02\x00\x11\x00\x01\x00"), (0, 2, 0))?;
-    check_eq(run_verdict(b"\x01\x00\x12\x00\x01"), (0, 3, 0))?;
-    check_eq(run_verdict(b"\x04\x00\x12\x00\x01\x00\x01\x00"), (0, 3, 0))?;
-    check_eq(run_verdict(b"\x02\x00\x12\x00\x00\x00"), (0, 4, 0))?;
-    check_eq(run_verdict(b"\x02\x00\x12\x00\x04\x00"), (0, 4, 0))?;
-    check_eq(run_verdict(b"\x02\x00\x12\x00\x01\x01"), (0, 4, 0))?;
-    check_eq(run_verdict(b"\x02\x00\x12\x00\x02\x01"), (0, 4, 0))?;
-    check_eq(
-        run_verdict(b"\x05\x00\x12\x00\x01\x00\x01\x00\x00\x00"),
-        (0, 7, 9),
-    )
+fn refused_runs() -> Result<(), Fail> {
+    for (bytes, number, place) in NO_RUN {
+        check_eq(run_verdict(bytes), (0, number, place))?;
+    }
+    Ok(())
 }
 
-// A run of n moves with an ending that is none.
+// A run of n moves.
 fn many_moves(heap: Global, n: u16) -> Result<Vec<u8>, Fail> {
     let mut bytes = Vec::new(heap);
     let length = u32::from(n) * 3 + 2;
