@@ -1,4 +1,8 @@
 // The tables of some files.
+ghost use mathlib.Core.Path.{_≡_};
+ghost use Rattle.std.specs.Results.{isOk};
+ghost use Rattle.std.specs.Vec.{made};
+ghost use Rattle.reader.specs.Table.{opened};
 use crate::help::failure;
 use crate::help::usage;
 use printing::Shown;
@@ -33,7 +37,9 @@ fn show_file(rt: &LibcRuntime, file: &str) -> io::Result<bool> {
 }
 
 // Shows what some bytes lay out, and tells whether it is a table.
-pub fn show(rt: &LibcRuntime, bytes: &[u8]) -> io::Result<bool> {
+pub fn show(rt: &LibcRuntime, bytes: &[u8]) -> io::Result<bool>
+    ensures { λ r. ⌜ made r (λ b. b ≡ isOk (opened (now (bytes .entry)))) ⌝ }
+{
     let Shown { sound, text } = show_table(rt.alloc(), bytes)?;
     rt.print(text)?;
     Ok(sound)
