@@ -3,7 +3,7 @@ use mathlib.Core.Path.{_≡_, refl, sym, ap, _∙_}
 use mathlib.Core.Bool.{Bool, true, false, cond, _&&_, _||_}
 use mathlib.Core.Logic.{_≢_, _⊎_, ⊎-elim}
 use mathlib.Core.List.{List, [], _∷_, _++_}
-use Prim.Native.Nat.{ℕ, zero, suc, min, _+_, _-_, _≤_, _<_}
+use Prim.Native.Nat.{ℕ, suc, min, _+_, _-_, _≤_, _<_}
 use native.Mathlib.Omega.{arith}
 use lib.Dec.{eqb, leb}
 use lib.ListN.{length, getD, set, take, replicate, length-set, length-append}
@@ -18,6 +18,7 @@ use Rattle.reader.specs.declared.row.Step.{Step}
 use Rattle.reader.specs.Row.{unused, blank, wayOf, errorAt, listed, sameStep, told, declared, fitting}
 use Rattle.reader.specs.Draft.{withWay, withStep, withError}
 use Rattle.reader.specs.Layout.{Action, Once, wayIn, member}
+use Rattle.reader.proofs.Rows.{getD-alike}
 use Rattle.reader.proofs.Keeps.{way-new, way-other}
 use Rattle.reader.proofs.Parts.{allWays, allSteps, allErrors, WaysFit, EachStepFits, EachErrorFits}
 
@@ -93,13 +94,8 @@ all-ways n (a ∷ xs) r len ok once =
 way-blank : (n s k : ℕ) → wayOf (blank n s) k ≡ Absent
 way-blank n s k = go (leb 1 k && leb k 32)
   where
-    same : (m i : ℕ) → getD (replicate m Absent) i Absent ≡ Absent
-    same zero i = refl
-    same (suc m) zero = refl
-    same (suc m) (suc i) = same m i
-
     go : (b : Bool) → cond b (getD (replicate 32 Absent) (k - 1) Absent) Absent ≡ Absent
-    go true = same 32 (k - 1)
+    go true = getD-alike 32 (k - 1) Absent
     go false = refl
 
 pub ways-in : (n s k : ℕ) (xs : List Action) → All Sized xs → Once (λ a. a .action) xs → wayOf (allWays (blank n s) xs) k ≡ wayIn k xs

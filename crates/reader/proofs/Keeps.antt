@@ -6,7 +6,7 @@ use mathlib.Core.List.{List, [], _∷_}
 use Prim.Native.Nat.{ℕ, zero, suc, _+_, _-_, _*_, _≤_, _<_}
 use native.Mathlib.Omega.{arith}
 use lib.Dec.{eqb, leb, ltb}
-use lib.ListN.{length, getD, set, replicate, length-set}
+use lib.ListN.{length, getD, set, length-set}
 use lib.Seq.{getD-set-same, getD-set-other}
 use Rattle.std.proofs.shelf.Tests.{and-parts, and-from, or-cases, or-left, or-right, eqb-true, leb-true, cases-eq, cases-bool, cond-false, both-ways}
 use Rattle.semantics.specs.declared.way.Way.{Way}
@@ -18,7 +18,7 @@ use Rattle.reader.specs.declared.stage.Stage.the-variants.{Head, Actions, Step
 use Rattle.reader.specs.Record.{sizeOf}
 use Rattle.reader.specs.Row.{unused, blank, wayOf, declared, usable, fitting, Facts}
 use Rattle.reader.specs.Draft.{withWay, withStep, withError, wayFrom, due}
-use Rattle.reader.proofs.Rows.{way-inside}
+use Rattle.reader.proofs.Rows.{way-inside, getD-alike}
 use Rattle.reader.proofs.Entries.{Entry, is-head, is-action, is-step, is-error, is-end}
 
 -- the places that a row has
@@ -27,11 +27,6 @@ Places r = (length (r .ways) ≡ 32) × (length (r .steps) ≡ 256) × (length (
 
 abbrev pub Keeps : Row → Type 0
 Keeps r = Places r × Facts r
-
-getD-alike : {X : Type 0} (n i : ℕ) (d : X) → getD (replicate n d) i d ≡ d
-getD-alike zero i d = refl
-getD-alike (suc n) zero d = refl
-getD-alike (suc n) (suc i) d = getD-alike n i d
 
 pub keeps-blank : (n s : ℕ) → 1 ≤ n → n ≤ 64 → s < n → Keeps (blank n s)
 keeps-blank n s l u h =

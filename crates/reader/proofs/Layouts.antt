@@ -18,7 +18,7 @@ use Rattle.reader.specs.Row.{unused, blank, errorAt, declared, fitting}
 use Rattle.reader.specs.Draft.{withWay, withStep, withError, follow}
 use Rattle.reader.specs.Table.{opened}
 use Rattle.reader.specs.Layout.{Action, Content, Once, wayIn, fits, tabled, member, rowOf, Lays, LaidOut}
-use Rattle.reader.proofs.Rows.{way-inside}
+use Rattle.reader.proofs.Rows.{way-inside, getD-alike}
 use Rattle.reader.proofs.Parts.{allWays, allSteps, allErrors, WaysFit, EachStepFits, EachErrorFits, table-told, follow-table}
 use Rattle.reader.proofs.Contents.{Sized, ways-once, once-ways, ways-in, fresh-blank, steps-once, once-steps, untold-none, steps-placed, errors-once, once-errors, errors-in}
 
@@ -53,11 +53,6 @@ getD-tabled zero i f d h = absurd (omega arith)
 getD-tabled (suc n) zero f d h = refl
 getD-tabled (suc n) (suc i) f d h = getD-tabled n i (λ j. f (suc j)) d (omega arith)
 
-none-failed : (m q : ℕ) → getD (replicate m false) q false ≡ false
-none-failed zero q = refl
-none-failed (suc m) zero = refl
-none-failed (suc m) (suc q) = none-failed m q
-
 abbrev content : ℕ → ℕ → List Action → List Step → List ℕ → Content
 content n s xs ss es = record { states = n; start = s; actions = xs; steps = ss; errors = es }
 
@@ -91,7 +86,7 @@ module _ (n s : ℕ) (xs : List Action) (ok : All Sized xs) (once : Once (λ a. 
       let failing : allErrors r2 es .errors ≡ tabled 64 (λ q. member q es) =
       ext-getD false (allErrors r2 es .errors) (tabled 64 (λ q. member q es)) (k3 .4 ∙ ap length errors-are ∙ sym (length-tabled 64 (λ q. member q es))) (λ q h.
       let low : q < 64 = subst (λ m. q < m) (k3 .4 ∙ ap length errors-are) h in
-      errors-in q es r2 wide within ∙ ap (λ b. b || member q es) (ap (λ l. getD l q false) errors-are ∙ none-failed 64 q)
+      errors-in q es r2 wide within ∙ ap (λ b. b || member q es) (ap (λ l. getD l q false) errors-are ∙ getD-alike 64 q false)
       ∙ sym (getD-tabled 64 q (λ p. member p es) false low)) in
       let counted : 0 + length ss ≡ length ss = omega arith in
       let ways-path = k3 .1 ∙ k2 .1 ∙ ways-are in
@@ -142,7 +137,7 @@ follow-lays rs r p =
 
 none-unfailed : (r : Row) → r .errors ≡ replicate 64 false → (es : List ℕ) → All (λ e. errorAt r e ≡ false) es
 none-unfailed r h [] = tt
-none-unfailed r h (e ∷ es) = (ap (λ l. getD l e false) h ∙ none-failed 64 e, none-unfailed r h es)
+none-unfailed r h (e ∷ es) = (ap (λ l. getD l e false) h ∙ getD-alike 64 e false, none-unfailed r h es)
 
 -- what is laid out opens
 pub lays-follow : (rs : Records) (r : Row) → Lays rs r → follow (blank 1 0) Head 0 rs ≡ Ok r

@@ -20,9 +20,10 @@ use Rattle.reader.specs.declared.stage.Stage.{Stage}
 use Rattle.reader.specs.declared.stage.Stage.the-variants.{Head, Actions, Steps, Errors, Closed}
 use Rattle.reader.specs.Record.{Records, none, cut, next, sizeOf}
 use Rattle.reader.specs.Row.{blank, wayOf, errorAt, listed, told, declared, fitting}
-use Rattle.reader.specs.Draft.{withWay, withStep, withError, wayFrom, headed, acted, stepIn, failed, due, staged, taken, entered, closed, onward, follow}
+use Rattle.reader.specs.Draft.{withWay, withStep, withError, wayFrom, acted, stepIn, failed, due, staged, taken, entered, closed, onward, follow}
 use Rattle.reader.specs.Layout.{Action, telling, actionBody, stepBody, errorBody, closing}
 use Rattle.reader.proofs.Outcomes.{err-ok, ok-same}
+use Rattle.reader.proofs.Drafts.{headed-fits}
 use Rattle.reader.proofs.Entries.{Entry, entry, is-head, is-action, is-step, is-error, is-end}
 use Rattle.reader.proofs.Follows.{follow-none, follow-cut, follow-next, follow-refused, follow-more, follow-done, follow-behind-cut, follow-behind-next}
 
@@ -261,6 +262,6 @@ follow-actions (a ∷ more) ss es r at fit fits fite =
 pub follow-table : (n s : ℕ) («as» : List Action) (ss : List Step) (es : List ℕ) (r : Row) (at : ℕ) → 1 ≤ n → n ≤ 64 → s < n → WaysFit (blank n s) «as» → EachStepFits (allWays (blank n s) «as») ss → EachErrorFits (allSteps (allWays (blank n s) «as») ss) es
     → follow r Head at (next 1 (n ∷ s ∷ []) (telling 2 actionBody «as» (telling 3 stepBody ss (telling 4 errorBody es closing)))) ≡ Ok (allErrors (allSteps (allWays (blank n s) «as») ss) es)
 follow-table n s «as» ss es r at l u h fit fits fite =
-    let new : headed at (n ∷ s ∷ []) ≡ Ok (blank n s) = cond-true (leb 1 n && (leb n 64 && ltb s n)) _ (Err (Value at)) (and-from (leb 1 n) _ (le-leb 1 n l) (and-from (leb n 64) _ (le-leb n 64 u) (lt-ltb s n h))) in
+    let new = headed-fits at (n ∷ s ∷ []) refl l u h in
     follow-more r Head at 1 (n ∷ s ∷ []) (telling 2 actionBody «as» (telling 3 stepBody ss (telling 4 errorBody es closing))) (blank n s, Actions) refl (ap (staged Actions) new)
     ∙ follow-actions «as» ss es (blank n s) (at + 6) fit fits fite
