@@ -1,0 +1,12 @@
+pub mod Search
+pub mod Ways
+pub mod Words
+pub mod Runs
+pub mod Errors
+pub mod Couplings
+pub mod Pairs
+pub mod Parts
+pub mod Replacing
+pub mod Closure
+pub mod Decided
+pub mod Worked
