@@ -1,6 +1,6 @@
 -- The sets of states are what runs say, and words are decided along them.
 use Prim.Native.Nat.{ℕ, suc, _<_}
-use mathlib.Core.Path.{_≡_, refl, sym, ap, subst, _∙_}
+use mathlib.Core.Path.{_≡_, refl, sym, ap, subst}
 use mathlib.Core.Logic.{_⊎_, inl, inr, _≢_}
 use mathlib.Core.Bool.{Bool, true, false, not, _&&_, _||_}
 use mathlib.Core.List.{List, [], _∷_, _++_}
@@ -9,14 +9,14 @@ use Rattle.std.proofs.shelf.Tests.{and-parts, and-from, or-cases, or-left, or-r
 use Rattle.semantics.specs.declared.way.Way.the-variants.{Absent, Input, Output}
 use Rattle.semantics.specs.Way.{isInput, isOutput}
 use Rattle.semantics.specs.System.{System, WellFormed, any, accepts}
-use Rattle.semantics.specs.Trace.{Runs, here, quiet, letter, After, Word, Outputs, Prefix, MissedInput, ErrorTrace, Trace, Illegal}
-use Rattle.semantics.specs.Deciding.{only, meets, closure, moved, reach, next, walk, after, local, illegal, misses, isWord, isTrace, errs, isErrorTrace}
+use Rattle.semantics.specs.Trace.{Runs, here, quiet, letter, After, Word, Outputs, Prefix, ErrorTrace, Trace, Illegal}
+use Rattle.semantics.specs.Deciding.{only, moved, reach, next, walk, after, local, illegal, fails, misses, isWord, isTrace, errs, isErrorTrace}
 use Rattle.semantics.specs.Theorems.{Sets-are-exact, Reach-keeps-its-rules, Words-are-decided}
-use Rattle.semantics.proofs.Search.{any-view, any-make}
+use Rattle.semantics.proofs.Search.{same-test, any-view, any-make}
 use Rattle.semantics.proofs.Ways.{input-view, output-view, present-view, present-make, output-present, present-nonzero}
 use Rattle.semantics.proofs.Words.{prefix-cons, prefix-refl, middle≢nil}
 use Rattle.semantics.proofs.Runs.{runs-append, runs-letter, runs-in, runs-from, runs-word}
-use Rattle.semantics.proofs.Errors.{Runaway, Cause, cause, error-trace}
+use Rattle.semantics.proofs.Errors.{Cause, cause, error-trace}
 use Rattle.semantics.proofs.Closure.{meets-view, meets-make, Steps, stay, go-on, Inside, closure-view, closure-on, closure-has}
 
 pub only-view : (p q : ℕ) → only p q ≡ true → p ≡ q
@@ -106,9 +106,9 @@ module _ {e : System} (wf : WellFormed e) where
       elim (or-cases (e .step p 0 q) (any (λ a. isOutput (e .way a) && e .step p a q) (suc (e .actions))) h) [
         | inl s ↦ inl s
         | inr m ↦
-          let (a, i, k) = any-view (λ a. isOutput (e .way a) && e .step p a q) (suc (e .actions)) m in
-          let (o, s) = and-parts (isOutput (e .way a)) (e .step p a q) k in
-          inr (a, output-view (e .way a) o, s)
+            let (a, i, k) = any-view (λ a. isOutput (e .way a) && e .step p a q) (suc (e .actions)) m in
+            let (o, s) = and-parts (isOutput (e .way a)) (e .step p a q) k in
+            inr (a, output-view (e .way a) o, s)
       ]
 
   local-quiet : (p q : ℕ) → e .step p 0 q ≡ true → local e p q ≡ true
@@ -167,10 +167,12 @@ module _ {e : System} (wf : WellFormed e) where
 
   -- ---- tests on sets
 
-  pub fails-view : (X : ℕ → Bool) → meets (e .states) X (illegal e) ≡ true → (q : ℕ) × (X q ≡ true) × Illegal e q
+  pub fails-view : (X : ℕ → Bool) → fails e X ≡ true → (q : ℕ) × (X q ≡ true) × Illegal e q
+  unfolding fails
   fails-view X h = let (q, i, x, y) = meets-view (e .states) X (illegal e) h in (q, x, illegal-view q y)
 
-  pub fails-make : (X : ℕ → Bool) {q : ℕ} → X q ≡ true → Illegal e q → meets (e .states) X (illegal e) ≡ true
+  pub fails-make : (X : ℕ → Bool) {q : ℕ} → X q ≡ true → Illegal e q → fails e X ≡ true
+  unfolding fails
   fails-make X {q} x h = meets-make (e .states) X (illegal e) (illegal-in q h) x (illegal-make q h)
 
   pub misses-view : (X : ℕ → Bool) (a : ℕ) → misses e X a ≡ true → (q : ℕ) × (X q ≡ true) × (accepts e q a ≡ false)
@@ -221,7 +223,7 @@ module _ {e : System} (wf : WellFormed e) where
   unfolding errs
   errs-view X [] h k = let (q, x, i) = fails-view X k in inl ([], q, q, prefix-refl [], x, here, i)
   errs-view X (a ∷ w) h k =
-      go (or-cases (meets (e .states) X (illegal e)) ((isInput (e .way a) && misses e X a) || errs e (next e X a) w) k) (errs-view (next e X a) w (h .1))
+      go (or-cases (fails e X) ((isInput (e .way a) && misses e X a) || errs e (next e X a) w) k) (errs-view (next e X a) w (h .1))
     where
       on : (errs e (next e X a) w ≡ true → IllegalFrom (next e X a) w ⊎ MissesFrom (next e X a) w)
           → ((isInput (e .way a) && misses e X a) ≡ true) ⊎ (errs e (next e X a) w ≡ true) → IllegalFrom X (a ∷ w) ⊎ MissesFrom X (a ∷ w)
@@ -231,23 +233,23 @@ module _ {e : System} (wf : WellFormed e) where
           inr ([], a, q, q, (w, refl), input-view (e .way a) j, x, here, i)
       on rec (inr b) = later X a w (present-nonzero wf (h .0)) (rec b)
 
-      go : (meets (e .states) X (illegal e) ≡ true) ⊎ (((isInput (e .way a) && misses e X a) || errs e (next e X a) w) ≡ true)
+      go : (fails e X ≡ true) ⊎ (((isInput (e .way a) && misses e X a) || errs e (next e X a) w) ≡ true)
           → (errs e (next e X a) w ≡ true → IllegalFrom (next e X a) w ⊎ MissesFrom (next e X a) w) → IllegalFrom X (a ∷ w) ⊎ MissesFrom X (a ∷ w)
       go (inl f) rec = let (q, x, i) = fails-view X f in inl ([], q, q, (a ∷ w, refl), x, here, i)
       go (inr f) rec = on rec (or-cases (isInput (e .way a) && misses e X a) (errs e (next e X a) w) f)
 
-  errs-here : (X : ℕ → Bool) (w : List ℕ) → meets (e .states) X (illegal e) ≡ true → errs e X w ≡ true
+  errs-here : (X : ℕ → Bool) (w : List ℕ) → fails e X ≡ true → errs e X w ≡ true
   unfolding errs
   errs-here X [] f = f
   errs-here X (a ∷ w) f = or-left _ _ f
 
   errs-later : (X : ℕ → Bool) (a : ℕ) (w : List ℕ) → errs e (next e X a) w ≡ true → errs e X (a ∷ w) ≡ true
   unfolding errs
-  errs-later X a w h = or-right (meets (e .states) X (illegal e)) _ (or-right (isInput (e .way a) && misses e X a) _ h)
+  errs-later X a w h = or-right (fails e X) _ (or-right (isInput (e .way a) && misses e X a) _ h)
 
   errs-misses : (X : ℕ → Bool) (a : ℕ) (w : List ℕ) → e .way a ≡ Input → misses e X a ≡ true → errs e X (a ∷ w) ≡ true
   unfolding errs
-  errs-misses X a w k h = or-right (meets (e .states) X (illegal e)) _ (or-left _ _ (and-from (isInput (e .way a)) (misses e X a) (ap isInput k) h))
+  errs-misses X a w k h = or-right (fails e X) _ (or-left _ _ (and-from (isInput (e .way a)) (misses e X a) (ap isInput k) h))
 
   errs-illegal : (X : ℕ → Bool) (w u : List ℕ) → Stays e X → {p q : ℕ} → Prefix u w → X p ≡ true → Runs e p u q → Illegal e q → errs e X w ≡ true
   errs-illegal X w [] f pre x t i = errs-here X w (fails-make X (stays-run X f x t) i)
@@ -354,14 +356,9 @@ sets-are-exact e wf = (
   (λ p. (illegal-view wf p, illegal-make wf p)),
 )
 
-same : (b c : Bool) → (b ≡ true → c ≡ true) → (c ≡ true → b ≡ true) → b ≡ c
-same true c f g = sym (f refl)
-same false true f g = g refl
-same false false f g = refl
-
 pub reach-keeps-its-rules : Reach-keeps-its-rules
 reach-keeps-its-rules e wf X =
-    ((λ f q. same (reach e X q) (X q) (stops f q) (λ x. reach-make wf X x here)), (λ q. same (reach e X q) (reach e more q) (there q) (back q)))
+    ((λ f q. same-test (reach e X q) (X q) (stops f q) (λ x. reach-make wf X x here)), (λ q. same-test (reach e X q) (reach e more q) (there q) (back q)))
   where
     more : ℕ → Bool
     more p = X p || moved e X 0 p

@@ -1,9 +1,9 @@
 -- Error traces by illegal states, and without outputs at their end.
 use Prim.Native.Nat.{ℕ}
-use mathlib.Core.Path.{_≡_, sym, ap, subst, _∙_}
+use mathlib.Core.Path.{_≡_, sym, subst, _∙_}
 use mathlib.Core.Logic.{_⊎_, inl, inr}
 use mathlib.Core.Bool.{false}
-use mathlib.Core.List.{List, [], _∷_, _++_, append-assoc, append-nil}
+use mathlib.Core.List.{List, [], _∷_, _++_, append-nil}
 use Rattle.std.proofs.shelf.Elements.{all-append}
 use Rattle.semantics.specs.declared.way.Way.the-variants.{Absent, Input, Output}
 use Rattle.semantics.specs.System.{System, accepts}

@@ -1,19 +1,16 @@
 -- What a composable pair of systems does, and a system that does the same, by numbers for pairs of states.
-use Prim.Native.Nat.{ℕ, zero, _+_, _*_, _/_, _%_, _<_}
+use Prim.Native.Nat.{ℕ, _<_}
 use mathlib.Core.Path.{_≡_, refl, sym, ap, subst, subst₂, _∙_}
-use mathlib.Core.Logic.{_⊎_, inl, inr, _≢_}
+use mathlib.Core.Logic.{_⊎_, inl, inr}
 use mathlib.Core.Bool.{Bool, true, false}
-use native.Mathlib.Omega.{arith}
-use native.Mathlib.Nat.{div-add-mod', div-lt-iff-lt-mul, mod-lt}
 use lib.Arith.{digits-div, digits-mod}
 use Rattle.std.proofs.shelf.Tests.{both-ways, cases-bool}
-use Rattle.semantics.specs.declared.way.Way.{Way}
-use Rattle.semantics.specs.declared.way.Way.the-variants.{Absent, Input, Output}
+use Rattle.semantics.specs.declared.way.Way.the-variants.{Absent, Input}
 use Rattle.semantics.specs.System.{System, WellFormed, accepts}
-use Rattle.semantics.specs.Coupling.{Composable, Synced, pairNumber, joined, CoupledStep, first, second, both, CoupledError, first-fails, second-fails, second-misses, first-misses, couple}
+use Rattle.semantics.specs.Coupling.{Composable, pairNumber, joined, CoupledStep, first, second, both, CoupledError, first-fails, second-fails, second-misses, first-misses, couple}
 use Rattle.semantics.proofs.Search.{accepts-view, accepts-make}
-use Rattle.semantics.proofs.Ways.{Sync, sync-swap, sync-present, lone, lone-left, joined-comm, joined-input, input≢absent}
-use Rattle.semantics.proofs.Couplings.{one, two, step-view, step-make, error-view, error-make, coupling-is-well-formed}
+use Rattle.semantics.proofs.Ways.{Sync, sync-swap, lone, lone-left, joined-comm, joined-input, input≢absent}
+use Rattle.semantics.proofs.Couplings.{one, two, step-view, step-make, error-view, error-make, coupling-is-well-formed, parts-in, pair-parts}
 
 -- As `CoupledStep`, where a and c are composable: an action that is not synchronised is none of the other part.
 pub data PairStep (a c : System) : ℕ → ℕ → ℕ → ℕ → ℕ → Type 0 where
@@ -74,29 +71,23 @@ module _ (a c : System) (wfa : WellFormed a) (wfc : WellFormed c) where
     ]) s
     coupled (both x h s t) = joint x h s t
 
-    some-right : zero < c .states
-    some-right = let h = wfc .start-in in omega arith
-
     view : (z x z′ : ℕ) → couple a c .step z x z′ ≡ true → PairStep a c (one c z) (two c z) x (one c z′) (two c z′)
     view z x z′ e = coupled (step-view a c z x z′ e .2)
 
     make : {p q x p′ q′ : ℕ} → p < a .states → q < c .states → PairStep a c p q x p′ q′ → couple a c .step (pairNumber c p q) x (pairNumber c p′ q′) ≡ true
     make hp hq s = let (hp′, hq′) = step-ends hp hq s in step-make a c wfa wfc hp hq hp′ hq′ (uncoupled s)
 
-    one-in : {z : ℕ} → z < couple a c .states → one c z < a .states
-    unfolding couple
-    one-in {z} h = div-lt-iff-lt-mul {k = c .states} {x = z} {y = a .states} some-right .1 h
-
     -- a step of the pair from the state z
     takes : {z x p′ q′ : ℕ} → z < couple a c .states → PairStep a c (one c z) (two c z) x p′ q′ → accepts (couple a c) z x ≡ true
+    unfolding couple
     takes {z} {x} {p′} {q′} h s =
+        let (hp, hq) = parts-in a c wfc h in
         accepts-make (coupling-is-well-formed a c wfa wfc)
-        (subst (λ k. couple a c .step k x (pairNumber c p′ q′) ≡ true) (div-add-mod' z (c .states)) (make (one-in h) (mod-lt z some-right) s))
+        (subst (λ k. couple a c .step k x (pairNumber c p′ q′) ≡ true) (pair-parts c z) (make hp hq s))
 
     taken : {p q x : ℕ} → q < c .states → accepts (couple a c) (pairNumber c p q) x ≡ true → (p′ : ℕ) × (q′ : ℕ) × PairStep a c p q x p′ q′
     taken {p} {q} {x} hq t =
-        let (z′, s) = accepts-view (couple a c) (pairNumber c p q) x t in
-        (
+        let (z′, s) = accepts-view (couple a c) (pairNumber c p q) x t in (
           one c z′,
           two c z′,
           subst₂ (λ j k. PairStep a c j k x (one c z′) (two c z′)) (digits-div p hq) (digits-mod p hq) (view (pairNumber c p q) x z′ s),

@@ -2,17 +2,17 @@
 use Prim.Native.Nat.{ℕ, _<_}
 use mathlib.Core.Path.{_≡_, refl, sym, ap, subst, subst₂, fun-ext, _∙_}
 use mathlib.Core.Logic.{_⊎_, inl, inr}
-use mathlib.Core.Bool.{Bool, true, false}
+use mathlib.Core.Bool.{false}
 use mathlib.Core.List.{List, [], _∷_, _++_, append-nil}
 use Rattle.std.proofs.shelf.Elements.{all-append}
 use Rattle.semantics.specs.declared.way.Way.{Way}
 use Rattle.semantics.specs.declared.way.Way.the-variants.{Absent, Input, Output}
 use Rattle.semantics.specs.System.{System, WellFormed, accepts}
-use Rattle.semantics.specs.Trace.{Runs, here, quiet, letter, After, Word, Outputs, Prefix, ErrorTrace, Trace, Flooded}
+use Rattle.semantics.specs.Trace.{Runs, here, letter, After, Word, ErrorTrace, Trace, Flooded}
 use Rattle.semantics.specs.Replacement.{MayReplace}
 use Rattle.semantics.specs.Coupling.{Composable, joined, CoupledError, first-fails, second-fails, second-misses, first-misses}
 use Rattle.semantics.specs.Theorems.{Coupling-preserves-replacement, Replacement-is-reflexive, Replacement-chains}
-use Rattle.semantics.proofs.Ways.{Sync, sync-present, present-nonzero, input-present, output-present, input≢output}
+use Rattle.semantics.proofs.Ways.{Sync, present-nonzero, input-present, output-present, input≢output}
 use Rattle.semantics.proofs.Words.{prefix-append, word-like, outputs-like}
 use Rattle.semantics.proofs.Runs.{runs-append, runs-split, runs-letter, runs-in, runs-word}
 use Rattle.semantics.proofs.Errors.{Cause, cause, error-trace, cause-error, cause-missed, cause-longer, cause-shorter}
@@ -158,7 +158,7 @@ coupling-preserves-replacement a b c wfa wfb wfc h R =
     let k = composable-like R h in (
       replaced wfa wfb wfc (coupling-is-well-formed a c wfa wfc) k (couple-implements a c wfa wfc h) (couple-implements b c wfb wfc k) R,
       replaced wfa wfb wfc (coupling-is-well-formed c a wfc wfa) k
-      (swapped (couple-implements c a wfc wfa (composable-swap h))) (swapped (couple-implements c b wfc wfb (composable-swap k))) R,
+          (swapped (couple-implements c a wfc wfa (composable-swap h))) (swapped (couple-implements c b wfc wfb (composable-swap k))) R,
     )
 
 pub replacement-is-reflexive : Replacement-is-reflexive

@@ -1,11 +1,16 @@
--- Bounded search: steps that are looked for among all states.
+-- Tests, and bounded search: steps that are looked for among all states.
 use Prim.Native.Nat.{ℕ, zero, suc, _<_}
-use mathlib.Core.Path.{_≡_, sym, ap, _∙_}
+use mathlib.Core.Path.{_≡_, refl, sym, ap, _∙_}
 use mathlib.Core.Logic.{inl, inr}
 use mathlib.Core.Bool.{Bool, true, false, false≢true}
 use native.Mathlib.Omega.{arith}
 use Rattle.std.proofs.shelf.Tests.{or-cases, or-left, or-right, cases-eq}
 use Rattle.semantics.specs.System.{System, WellFormed, any, hasStep, accepts}
+
+pub same-test : (s t : Bool) → (s ≡ true → t ≡ true) → (t ≡ true → s ≡ true) → s ≡ t
+same-test true t f g = sym (f refl)
+same-test false true f g = g refl
+same-test false false f g = refl
 
 pub any-view : (f : ℕ → Bool) (n : ℕ) → any f n ≡ true → (q : ℕ) × (q < n) × (f q ≡ true)
 unfolding any

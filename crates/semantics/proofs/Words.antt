@@ -6,13 +6,12 @@ use mathlib.Core.Bool.{Bool, true, false}
 use mathlib.Core.List.{List, [], _∷_, _++_, append-assoc, append-nil}
 use native.Mathlib.Omega.{arith}
 use Rattle.std.specs.shelf.Lists.{All}
-use Rattle.std.proofs.shelf.Elements.{all-append, all-weaker}
+use Rattle.std.proofs.shelf.Elements.{all-weaker}
 use Rattle.semantics.specs.declared.way.Way.{Way}
 use Rattle.semantics.specs.declared.way.Way.the-variants.{Absent, Input, Output}
 use Rattle.semantics.specs.Way.{isOutput}
 use Rattle.semantics.specs.System.{System}
 use Rattle.semantics.specs.Trace.{Word, Outputs, Prefix, put, prune}
-use Rattle.semantics.proofs.Ways.{output-present}
 
 pub all-front : {X : Type 0} (P : X → Type 0) (xs ys : List X) → All P (xs ++ ys) → All P xs
 all-front P [] ys h = tt

@@ -1,23 +1,23 @@
 -- The worked examples: what holds of them is shown by runs, and what does not by deciding it.
-use Prim.Native.Nat.{ℕ, suc, max, _≤_, _<_}
+use Prim.Native.Nat.{ℕ, max, _≤_, _<_}
 use mathlib.Core.Path.{_≡_, refl, sym, ap, subst, _∙_}
 use mathlib.Core.Logic.{_⊎_, inl, inr, _≢_}
-use mathlib.Core.Bool.{Bool, true, false, cond, _&&_, _||_, false≢true, true≢false}
+use mathlib.Core.Bool.{Bool, true, false, cond, _&&_, _||_, false≢true}
 use mathlib.Core.List.{List, [], _∷_}
 use native.Mathlib.Omega.{arith}
-use lib.Dec.{eqb, leb, ltb}
-use Rattle.std.proofs.shelf.Tests.{and-parts, or-cases, or-left, or-right, cases-bool, both-ways, eqb-true, eq-eqb, ltb-true, leb-true}
+use lib.Dec.{eqb, ltb}
+use Rattle.std.proofs.shelf.Tests.{and-parts, or-cases, or-left, cases-bool, both-ways, eqb-true, ltb-true}
 use Rattle.semantics.specs.declared.way.Way.{Way}
 use Rattle.semantics.specs.declared.way.Way.the-variants.{Absent, Input, Output}
 use Rattle.semantics.specs.Way.{isInput, isOutput}
 use Rattle.semantics.specs.System.{System, WellFormed, any, hasStep, accepts}
-use Rattle.semantics.specs.Trace.{Runs, here, quiet, letter, After, StrictError, ErrorTrace, Trace, Flooded}
+use Rattle.semantics.specs.Trace.{Runs, here, quiet, letter, After, StrictError, ErrorTrace, Flooded}
 use Rattle.semantics.specs.Replacement.{MayReplace}
 use Rattle.semantics.specs.Coupling.{couple, stepAt, missedAt, errorAt}
-use Rattle.semantics.specs.Deciding.{only, meets, grown, grownBy, closure, moved, reach, next, walk, after, local, illegal, misses, isWord, isTrace, errs, isErrorTrace}
-use Rattle.semantics.specs.Examples.{stepIn, stateIn, small, late, doomed, replying, silent, Late-input-is-missed, Output-into-error-counts-before-it, Silent-may-replace-replying, Replying-may-not-replace-silent, Relay-misses-a-second-reply}
+use Rattle.semantics.specs.Deciding.{only, meets, grown, grownBy, closure, moved, reach, next, walk, after, local, illegal, fails, misses, isWord, isTrace, errs, isErrorTrace}
+use Rattle.semantics.specs.Examples.{stepIn, stateIn, small, doomed, replying, silent, Late-input-is-missed, Output-into-error-counts-before-it, Silent-may-replace-replying, Replying-may-not-replace-silent, Relay-misses-a-second-reply}
 use Rattle.semantics.proofs.Search.{accepts-view, accepts-make}
-use Rattle.semantics.proofs.Ways.{input≢absent, input≢output, output≢absent, present-view}
+use Rattle.semantics.proofs.Ways.{input≢absent, input≢output, present-view}
 use Rattle.semantics.proofs.Words.{word-like, outputs-like}
 use Rattle.semantics.proofs.Errors.{Cause, cause, error-trace}
 use Rattle.semantics.proofs.Closure.{meets-make}
@@ -122,7 +122,7 @@ strict-error-decided : {e : System} → WellFormed e → (w : List ℕ) → Stri
 strict-error-decided {e} wf w (q, t, bad) = meets-make (e .states) (after e w) (e .error) (wf .errors-in q bad) (after-make e wf w t) bad
 
 pub output-into-error-counts-before-it : Output-into-error-counts-before-it
-unfolding after walk next moved isErrorTrace isWord errs misses meets any closure grownBy grown reach only illegal local accepts hasStep
+unfolding after walk next moved isErrorTrace isWord errs fails misses meets any closure grownBy grown reach only illegal local accepts hasStep
 output-into-error-counts-before-it = (not-yet, at-once, not-before)
   where
     not-yet : StrictError doomed (1 ∷ []) → ⊥
@@ -191,7 +191,7 @@ silent-may-replace-replying =
         ]
 
 pub replying-may-not-replace-silent : Replying-may-not-replace-silent
-unfolding isTrace after walk next moved isErrorTrace isWord errs misses meets any closure grownBy grown reach only illegal local accepts hasStep
+unfolding isTrace after walk next moved isErrorTrace isWord errs fails misses meets any closure grownBy grown reach only illegal local accepts hasStep
 replying-may-not-replace-silent R = go (R .floods (1 ∷ 2 ∷ []) (inl (0, letter {q = 1} 1 one≢zero refl (letter {q = 0} 2 two≢zero refl here))))
   where
     go : Flooded silent (1 ∷ 2 ∷ []) → ⊥

@@ -10,12 +10,13 @@
 -- after e w            the states after the word w
 -- local e p q          has e a local step from p to q: an output step or an internal step?
 -- illegal e p          is the state p illegal: do local steps lead from p to an error?
+-- fails e X            is there an illegal state in X?
 -- misses e X a         is there a state in X that does not accept a?
 -- isWord e w           is every letter of w an input or an output?
 -- isTrace e w          is w a trace?
 -- isErrorTrace e w     is w an error trace?
 use Prim.Native.Nat.{ℕ, zero, suc}
-use mathlib.Core.Bool.{Bool, true, false, not, _&&_, _||_}
+use mathlib.Core.Bool.{Bool, true, not, _&&_, _||_}
 use mathlib.Core.List.{List, [], _∷_}
 use lib.Dec.{eqb}
 use Rattle.semantics.specs.Way.{isInput, isOutput}
@@ -62,6 +63,9 @@ local e p q = e .step p 0 q || any (λ a. isOutput (e .way a) && e .step p a q) 
 unfoldable pub illegal : System → ℕ → Bool
 illegal e = closure (λ q p. local e p q) (e .states) (e .error)
 
+unfoldable pub fails : System → (ℕ → Bool) → Bool
+fails e X = meets (e .states) X (illegal e)
+
 unfoldable pub misses : System → (ℕ → Bool) → ℕ → Bool
 misses e X a = meets (e .states) X (λ q. not (accepts e q a))
 
@@ -74,8 +78,8 @@ isTrace e w = isWord e w && any (after e w) (e .states)
 
 -- on the way along w from X, is there an illegal state, or an input that is missed?
 unfoldable pub errs : System → (ℕ → Bool) → List ℕ → Bool
-errs e X [] = meets (e .states) X (illegal e)
-errs e X (a ∷ w) = meets (e .states) X (illegal e) || ((isInput (e .way a) && misses e X a) || errs e (next e X a) w)
+errs e X [] = fails e X
+errs e X (a ∷ w) = fails e X || ((isInput (e .way a) && misses e X a) || errs e (next e X a) w)
 
 unfoldable pub isErrorTrace : System → List ℕ → Bool
 isErrorTrace e w = isWord e w && errs e (reach e (only (e .start))) w

@@ -1,5 +1,6 @@
 -- System           a component with inputs, outputs and errors: its states, the ways of its actions, its errors, its steps
 -- WellFormed e     e speaks of no other states and actions than its own
+-- Same c d         c and d have the same states, start, ways, errors and steps
 -- any f n          does some number below n pass the test f?
 -- hasStep e p x    has the state p a step under the action x?
 -- accepts e p x    does the state p take the input x, by a step of its own?
@@ -28,6 +29,13 @@ pub record WellFormed (e : System) : Type 0 where
   pub from-in : (p x q : ℕ) → e .step p x q ≡ true → p < e .states
   pub to-in : (p x q : ℕ) → e .step p x q ≡ true → q < e .states
   pub named : (p x q : ℕ) → e .step p x q ≡ true → (x ≡ 0) ⊎ (e .way x ≢ Absent)
+
+pub record Same (c d : System) : Type 0 where
+  pub states : c .states ≡ d .states
+  pub start : c .start ≡ d .start
+  pub ways : (x : ℕ) → c .way x ≡ d .way x
+  pub errors : (p : ℕ) → c .error p ≡ d .error p
+  pub steps : (p x q : ℕ) → c .step p x q ≡ d .step p x q
 
 unfoldable pub any : (ℕ → Bool) → ℕ → Bool
 any f zero = false

@@ -3,9 +3,9 @@
 use Prim.Native.Nat.{ℕ}
 use mathlib.Core.Path.{_≡_}
 use mathlib.Core.Logic.{_⊎_, _↔_}
-use mathlib.Core.Bool.{Bool, true, false, _||_}
+use mathlib.Core.Bool.{Bool, true, _||_}
 use mathlib.Core.List.{List, [], _++_}
-use Rattle.semantics.specs.System.{System, WellFormed}
+use Rattle.semantics.specs.System.{System, WellFormed, Same}
 use Rattle.semantics.specs.Trace.{Runs, After, Word, Outputs, Prefix, prune, MissedInput, ErrorTrace, Trace, Illegal}
 use Rattle.semantics.specs.Replacement.{MayReplace}
 use Rattle.semantics.specs.Coupling.{Composable, couple, IsCoupling}
@@ -29,6 +29,11 @@ Coupling-is-well-formed = (a b : System) → WellFormed a → WellFormed b → W
 
 abbrev pub Coupling-goes-state-by-state : Type 0
 Coupling-goes-state-by-state = (a b : System) → WellFormed a → WellFormed b → IsCoupling a b (couple a b)
+
+-- Nothing else is: a well-formed system that is the coupling of a and b, state by state, is the same as `couple a b`.
+abbrev pub Coupling-is-determined : Type 0
+Coupling-is-determined =
+    (a b c : System) → WellFormed a → WellFormed b → WellFormed c → IsCoupling a b c → Same c (couple a b)
 
 -- A word is an error trace exactly where some front of it can lead to an illegal state, or an input of it is missed.
 abbrev pub Error-traces-by-illegal-states : Type 0

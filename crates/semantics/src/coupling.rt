@@ -1,5 +1,5 @@
 // Theorems: what a coupling is.
-ghost use Rattle.semantics.specs.Theorems.{Coupling-is-well-formed, Coupling-goes-state-by-state};
+ghost use Rattle.semantics.specs.Theorems.{Coupling-is-well-formed, Coupling-goes-state-by-state, Coupling-is-determined};
 
 // The coupling of well-formed systems is well formed.
 pub fn coupling_is_well_formed()
@@ -10,4 +10,9 @@ pub fn coupling_is_well_formed()
 // states.
 pub fn coupling_goes_state_by_state()
     ensures { λ _. ⌜ Coupling-goes-state-by-state ⌝ }
+{}
+
+// A well-formed system with all of that is the same as the coupling.
+pub fn coupling_is_determined()
+    ensures { λ _. ⌜ Coupling-is-determined ⌝ }
 {}

@@ -9,6 +9,7 @@ mod traces;
 mod way;
 
 pub use coupling::coupling_goes_state_by_state;
+pub use coupling::coupling_is_determined;
 pub use coupling::coupling_is_well_formed;
 pub use deciding::reach_keeps_its_rules;
 pub use deciding::sets_are_exact;
