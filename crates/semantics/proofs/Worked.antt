@@ -2,20 +2,20 @@
 use Prim.Native.Nat.{ℕ, max, _≤_, _<_}
 use mathlib.Core.Path.{_≡_, refl, sym, ap, subst, _∙_}
 use mathlib.Core.Logic.{_⊎_, inl, inr, _≢_}
-use mathlib.Core.Bool.{Bool, true, false, cond, _&&_, _||_, false≢true}
+use mathlib.Core.Bool.{Bool, true, false, _&&_, _||_, false≢true}
 use mathlib.Core.List.{List, [], _∷_}
 use native.Mathlib.Omega.{arith}
 use lib.Dec.{eqb, ltb}
 use Rattle.std.proofs.shelf.Tests.{and-parts, or-cases, or-left, cases-bool, both-ways, eqb-true, ltb-true}
 use Rattle.semantics.specs.declared.way.Way.{Way}
-use Rattle.semantics.specs.declared.way.Way.the-variants.{Absent, Input, Output}
+use Rattle.semantics.specs.declared.way.Way.the-variants.{Absent, Input}
 use Rattle.semantics.specs.Way.{isInput, isOutput}
 use Rattle.semantics.specs.System.{System, WellFormed, any, hasStep, accepts}
 use Rattle.semantics.specs.Trace.{Runs, here, quiet, letter, After, StrictError, ErrorTrace, Flooded}
 use Rattle.semantics.specs.Replacement.{MayReplace}
 use Rattle.semantics.specs.Coupling.{couple, stepAt, missedAt, errorAt}
 use Rattle.semantics.specs.Deciding.{only, meets, grown, grownBy, closure, moved, reach, next, walk, after, local, illegal, fails, misses, isWord, isTrace, errs, isErrorTrace}
-use Rattle.semantics.specs.Examples.{stepIn, stateIn, small, doomed, replying, silent, Late-input-is-missed, Output-into-error-counts-before-it, Silent-may-replace-replying, Replying-may-not-replace-silent, Relay-misses-a-second-reply}
+use Rattle.semantics.specs.Examples.{stepIn, stateIn, oneOfEach, small, doomed, replying, silent, Late-input-is-missed, Output-into-error-counts-before-it, Silent-may-replace-replying, Replying-may-not-replace-silent, Relay-misses-a-second-reply}
 use Rattle.semantics.proofs.Search.{accepts-view, accepts-make}
 use Rattle.semantics.proofs.Ways.{input≢absent, input≢output, present-view}
 use Rattle.semantics.proofs.Words.{word-like, outputs-like}
@@ -40,17 +40,17 @@ steps-fit : (n : ℕ) (way : ℕ → Way) (steps : List (ℕ × ℕ × ℕ)) →
 steps-fit n way [] h p x q e = absurd (false≢true e)
 steps-fit n way ((p′, x′, q′) ∷ rest) h p x q e = go (or-cases (eqb p p′ && (eqb x x′ && eqb q q′)) (stepIn rest p x q) e) (steps-fit n way rest (parts .1) p x q)
   where
-    here? : Bool
-    here? = ltb p′ n && (ltb q′ n && (eqb x′ 0 || (isInput (way x′) || isOutput (way x′))))
+    fit : Bool
+    fit = ltb p′ n && (ltb q′ n && (eqb x′ 0 || (isInput (way x′) || isOutput (way x′))))
 
-    parts : (here? ≡ true) × (stepsFit n way rest ≡ true)
-    parts = and-parts here? (stepsFit n way rest) h
+    parts : (fit ≡ true) × (stepsFit n way rest ≡ true)
+    parts = and-parts fit (stepsFit n way rest) h
 
     fits : FitsAt n way p′ x′ q′
     fits =
         let (i, j) = and-parts (ltb p′ n) (ltb q′ n && (eqb x′ 0 || (isInput (way x′) || isOutput (way x′)))) (parts .0) in
         let (k, l) = and-parts (ltb q′ n) (eqb x′ 0 || (isInput (way x′) || isOutput (way x′))) j in
-        (ltb-true p′ n i, ltb-true q′ n k, elim (or-cases (eqb x′ 0) ((isInput (way x′) || isOutput (way x′))) l) [ inl z ↦ inl (eqb-true x′ 0 z) | inr z ↦ inr (present-view (way x′) z) ])
+        (ltb-true p′ n i, ltb-true q′ n k, elim (or-cases (eqb x′ 0) (isInput (way x′) || isOutput (way x′)) l) [ inl z ↦ inl (eqb-true x′ 0 z) | inr z ↦ inr (present-view (way x′) z) ])
 
     go : ((eqb p p′ && (eqb x x′ && eqb q q′)) ≡ true) ⊎ (stepIn rest p x q ≡ true) → (stepIn rest p x q ≡ true → FitsAt n way p x q) → FitsAt n way p x q
     go (inl t) rec =
@@ -68,12 +68,8 @@ states-fit n (p′ ∷ rest) h p e =
       | inr t ↦ states-fit n rest j p t
     ]
 
--- the ways of a small system
-abbrev pub smallWay : ℕ → ℕ → ℕ → Way
-smallWay i o x = cond (eqb x i) Input (cond (eqb x o) Output Absent)
-
-small-ways : (i o x : ℕ) → smallWay i o x ≢ Absent → x ≤ max i o
-small-ways i o x h =
+one-of-each : (i o x : ℕ) → oneOfEach i o x ≢ Absent → x ≤ max i o
+one-of-each i o x h =
     elim (cases-bool (eqb x i)) [
       | inl t ↦ (let same = eqb-true x i t in omega arith)
       | inr t ↦ elim (cases-bool (eqb x o)) [
@@ -82,17 +78,17 @@ small-ways i o x h =
       ]
     ]
 
-small-well-formed : (n i o : ℕ) (steps : List (ℕ × ℕ × ℕ)) (errors : List ℕ) → 0 < n → smallWay i o 0 ≡ Absent
-    → stepsFit n (smallWay i o) steps ≡ true → statesFit n errors ≡ true → WellFormed (small n i o steps errors)
+small-well-formed : (n i o : ℕ) (steps : List (ℕ × ℕ × ℕ)) (errors : List ℕ) → 0 < n → oneOfEach i o 0 ≡ Absent
+    → stepsFit n (oneOfEach i o) steps ≡ true → statesFit n errors ≡ true → WellFormed (small n i o steps errors)
 small-well-formed n i o steps errors h z s t =
     record {
       start-in = h;
       internal = z;
-      ways-in = small-ways i o;
+      ways-in = one-of-each i o;
       errors-in = states-fit n errors t;
-      from-in = λ p x q e. steps-fit n (smallWay i o) steps s p x q e .0;
-      to-in = λ p x q e. steps-fit n (smallWay i o) steps s p x q e .1;
-      named = λ p x q e. steps-fit n (smallWay i o) steps s p x q e .2;
+      from-in = λ p x q e. steps-fit n (oneOfEach i o) steps s p x q e .0;
+      to-in = λ p x q e. steps-fit n (oneOfEach i o) steps s p x q e .1;
+      named = λ p x q e. steps-fit n (oneOfEach i o) steps s p x q e .2;
     }
 
 doomed-well-formed : WellFormed doomed

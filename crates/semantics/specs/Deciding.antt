@@ -7,6 +7,7 @@
 -- moved e X a          where one step under a leads from X
 -- reach e X            X, with where internal steps lead from X
 -- next e X a           where a leads from X, with internal steps behind it
+-- walk e X w           where the word w leads from X, letter by letter
 -- after e w            the states after the word w
 -- local e p q          has e a local step from p to q: an output step or an internal step?
 -- illegal e p          is the state p illegal: do local steps lead from p to an error?
@@ -14,6 +15,7 @@
 -- misses e X a         is there a state in X that does not accept a?
 -- isWord e w           is every letter of w an input or an output?
 -- isTrace e w          is w a trace?
+-- errs e X w           is there, on the way along w from X, an illegal state or an input that is missed?
 -- isErrorTrace e w     is w an error trace?
 use Prim.Native.Nat.{ℕ, zero, suc}
 use mathlib.Core.Bool.{Bool, true, not, _&&_, _||_}
@@ -48,7 +50,6 @@ reach e X = closure (λ p q. e .step p 0 q) (e .states) X
 unfoldable pub next : System → (ℕ → Bool) → ℕ → ℕ → Bool
 next e X a = reach e (moved e X a)
 
--- X, and then letter by letter
 unfoldable pub walk : System → (ℕ → Bool) → List ℕ → ℕ → Bool
 walk e X [] = X
 walk e X (a ∷ w) = walk e (next e X a) w
@@ -76,7 +77,6 @@ isWord e (a ∷ w) = (isInput (e .way a) || isOutput (e .way a)) && isWord e w
 unfoldable pub isTrace : System → List ℕ → Bool
 isTrace e w = isWord e w && any (after e w) (e .states)
 
--- on the way along w from X, is there an illegal state, or an input that is missed?
 unfoldable pub errs : System → (ℕ → Bool) → List ℕ → Bool
 errs e X [] = fails e X
 errs e X (a ∷ w) = fails e X || ((isInput (e .way a) && misses e X a) || errs e (next e X a) w)

@@ -1,5 +1,8 @@
 -- Worked examples, against careless readings of the definitions.
--- small n i o steps errors    a system with n states and start 0, one input i and one output o
+-- stepIn steps p x q           is the step from p under x to q in the list?
+-- stateIn states p             is the state p in the list?
+-- oneOfEach i o x              the way of x where i is the only input and o the only output
+-- small n i o steps errors     a system with n states and start 0, the input i and the output o
 -- late          takes its input only after an internal step
 -- doomed        takes an input, and then runs into an error by an output of its own
 -- replying      takes an input and answers it by an output, again and again
@@ -10,13 +13,13 @@ use mathlib.Core.Path.{_≡_}
 use mathlib.Core.Bool.{Bool, true, false, cond, _&&_, _||_}
 use mathlib.Core.List.{List, [], _∷_}
 use lib.Dec.{eqb}
+use Rattle.semantics.specs.declared.way.Way.{Way}
 use Rattle.semantics.specs.declared.way.Way.the-variants.{Absent, Input, Output}
 use Rattle.semantics.specs.System.{System, accepts}
 use Rattle.semantics.specs.Trace.{StrictError, ErrorTrace, Trace}
 use Rattle.semantics.specs.Replacement.{MayReplace}
 use Rattle.semantics.specs.Coupling.{couple}
 
--- is the step from p under x to q in the list?
 abbrev pub stepIn : List (ℕ × ℕ × ℕ) → ℕ → ℕ → ℕ → Bool
 stepIn [] p x q = false
 stepIn ((p′, x′, q′) ∷ rest) p x q = (eqb p p′ && (eqb x x′ && eqb q q′)) || stepIn rest p x q
@@ -25,13 +28,16 @@ abbrev pub stateIn : List ℕ → ℕ → Bool
 stateIn [] p = false
 stateIn (p′ ∷ rest) p = eqb p p′ || stateIn rest p
 
+abbrev pub oneOfEach : ℕ → ℕ → ℕ → Way
+oneOfEach i o x = cond (eqb x i) Input (cond (eqb x o) Output Absent)
+
 abbrev pub small : ℕ → ℕ → ℕ → List (ℕ × ℕ × ℕ) → List ℕ → System
 small n i o steps errors =
     record {
       states = n;
       start = 0;
       actions = max i o;
-      way = λ x. cond (eqb x i) Input (cond (eqb x o) Output Absent);
+      way = oneOfEach i o;
       error = stateIn errors;
       step = stepIn steps;
     }

@@ -18,12 +18,14 @@ Coupling-preserves-replacement =
     (a b c : System) → WellFormed a → WellFormed b → WellFormed c → Composable a c → MayReplace a b
     → MayReplace (couple a c) (couple b c) × MayReplace (couple c a) (couple c b)
 
+-- Replacement is an order: every system may replace itself, and replacements chain.
 abbrev pub Replacement-is-reflexive : Type 0
 Replacement-is-reflexive = (a : System) → MayReplace a a
 
 abbrev pub Replacement-chains : Type 0
 Replacement-chains = (a b c : System) → MayReplace a b → MayReplace b c → MayReplace a c
 
+-- A coupling is well formed, and is the coupling in the words of `IsCoupling`.
 abbrev pub Coupling-is-well-formed : Type 0
 Coupling-is-well-formed = (a b : System) → WellFormed a → WellFormed b → WellFormed (couple a b)
 

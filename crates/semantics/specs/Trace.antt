@@ -4,6 +4,7 @@
 -- Outputs e w        every letter of w is an output of e
 -- Prefix u w         w begins with u
 -- prune e w          w without the outputs at its end
+-- put b x w          x before w, unless b holds and w is empty
 -- StrictError e w    e can be in an error after w
 -- PrunedError e w    w begins with a pruned strict error trace
 -- MissedInput e w    w begins with a word and an input that e, in some state after that word, does not accept
@@ -21,6 +22,7 @@ use Rattle.semantics.specs.declared.way.Way.the-variants.{Absent, Input, Outpu
 use Rattle.semantics.specs.Way.{isOutput}
 use Rattle.semantics.specs.System.{System, accepts}
 
+-- It stays where it is, or goes on after an internal step, or after a letter, which is no internal step.
 pub data Runs (e : System) : ℕ → List ℕ → ℕ → Type 0 where
   here : {p : ℕ} → Runs e p [] p
   quiet : {p q r : ℕ} {w : List ℕ} → e .step p 0 q ≡ true → Runs e q w r → Runs e p w r
@@ -38,12 +40,12 @@ Outputs e w = All (λ x. e .way x ≡ Output) w
 abbrev pub Prefix : List ℕ → List ℕ → Type 0
 Prefix u w = (v : List ℕ) × (u ++ v ≡ w)
 
--- x before w, unless x is an output and would stand at the end
 abbrev pub put : Bool → ℕ → List ℕ → List ℕ
 put false x w = x ∷ w
 put true x [] = []
 put true x (y ∷ w) = x ∷ (y ∷ w)
 
+-- letter by letter from the end: an output with nothing left behind it goes
 abbrev pub prune : System → List ℕ → List ℕ
 prune e [] = []
 prune e (x ∷ w) = put (isOutput (e .way x)) x (prune e w)
