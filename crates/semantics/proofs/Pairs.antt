@@ -7,16 +7,16 @@ use lib.Arith.{digits-div, digits-mod}
 use Rattle.std.proofs.shelf.Tests.{both-ways, cases-bool}
 use Rattle.semantics.specs.declared.way.Way.the-variants.{Absent, Input}
 use Rattle.semantics.specs.System.{System, WellFormed, accepts}
-use Rattle.semantics.specs.Coupling.{Composable, pairNumber, joined, CoupledStep, first, second, both, CoupledError, first-fails, second-fails, second-misses, first-misses, couple}
+use Rattle.semantics.specs.Coupling.{Synced, Composable, pairNumber, joined, CoupledStep, first, second, both, CoupledError, first-fails, second-fails, second-misses, first-misses, couple}
 use Rattle.semantics.proofs.Search.{accepts-view, accepts-make}
-use Rattle.semantics.proofs.Ways.{Sync, sync-swap, lone, lone-left, joined-comm, joined-input, input≢absent}
+use Rattle.semantics.proofs.Ways.{synced-swap, lone, lone-left, joined-comm, joined-input, input≢absent}
 use Rattle.semantics.proofs.Couplings.{one, two, step-view, step-make, error-view, error-make, coupling-is-well-formed, parts-in, pair-parts}
 
 -- As `CoupledStep`, where a and c are composable: an action that is not synchronised is none of the other part.
 pub data PairStep (a c : System) : ℕ → ℕ → ℕ → ℕ → ℕ → Type 0 where
   left : {p q p′ : ℕ} (x : ℕ) → c .way x ≡ Absent → a .step p x p′ ≡ true → PairStep a c p q x p′ q
   right : {p q q′ : ℕ} (x : ℕ) → a .way x ≡ Absent → c .step q x q′ ≡ true → PairStep a c p q x p q′
-  joint : {p q p′ q′ : ℕ} (x : ℕ) → Sync (a .way x) (c .way x) → a .step p x p′ ≡ true → c .step q x q′ ≡ true → PairStep a c p q 0 p′ q′
+  joint : {p q p′ q′ : ℕ} (x : ℕ) → Synced (a .way x) (c .way x) → a .step p x p′ ≡ true → c .step q x q′ ≡ true → PairStep a c p q 0 p′ q′
 
 -- e does what the pair of a and c does, with the state (p, q) as enc p q
 pub record Implements (e a c : System) (enc : ℕ → ℕ → ℕ) (one two : ℕ → ℕ) : Type 0 where
@@ -56,7 +56,7 @@ module _ (a c : System) (wfa : WellFormed a) (wfc : WellFormed c) where
 
   uncoupled : {p q x p′ q′ : ℕ} → PairStep a c p q x p′ q′ → CoupledStep a c p q x p′ q′
   uncoupled (left x h s) = first (lone-left h) s
-  uncoupled (right x h s) = second (λ k. lone-left h (sync-swap k)) s
+  uncoupled (right x h s) = second (λ k. lone-left h (synced-swap k)) s
   uncoupled (joint x h s t) = both x h s t
 
   module _ (apart : Composable a c) where
@@ -67,7 +67,7 @@ module _ (a c : System) (wfa : WellFormed a) (wfc : WellFormed c) where
     ]) s
     coupled {p} {q} {x} {p′} {q′} (second n s) = right x (elim (wfc .named q x q′ s) [
       | inl z ↦ ap (a .way) z ∙ wfa .internal
-      | inr h ↦ lone (c .way x) (a .way x) h (λ i j. apart .inputs x j i) (λ i j. apart .outputs x j i) (λ k. n (sync-swap k))
+      | inr h ↦ lone (c .way x) (a .way x) h (λ i j. apart .inputs x j i) (λ i j. apart .outputs x j i) (λ k. n (synced-swap k))
     ]) s
     coupled (both x h s t) = joint x h s t
 
@@ -117,7 +117,7 @@ module _ (a c : System) (wfa : WellFormed a) (wfc : WellFormed c) where
 step-swap : {a c : System} {p q x p′ q′ : ℕ} → PairStep a c p q x p′ q′ → PairStep c a q p x q′ p′
 step-swap (left x h s) = right x h s
 step-swap (right x h s) = left x h s
-step-swap (joint x h s t) = joint x (sync-swap h) t s
+step-swap (joint x h s t) = joint x (synced-swap h) t s
 
 error-swap : {a c : System} {p q : ℕ} → CoupledError a c p q → CoupledError c a q p
 error-swap (first-fails t) = second-fails t

@@ -9,9 +9,9 @@ use Rattle.semantics.specs.declared.way.Way.{Way}
 use Rattle.semantics.specs.declared.way.Way.the-variants.{Absent, Input, Output}
 use Rattle.semantics.specs.System.{System, WellFormed, accepts}
 use Rattle.semantics.specs.Trace.{Runs, here, quiet, letter, Outputs, Prefix, Illegal}
-use Rattle.semantics.specs.Coupling.{Composable, first-fails, second-misses}
+use Rattle.semantics.specs.Coupling.{Synced, Composable, first-fails, second-misses}
 use Rattle.semantics.proofs.Search.{accepts-view}
-use Rattle.semantics.proofs.Ways.{Sync, sync-present, present-nonzero}
+use Rattle.semantics.proofs.Ways.{synced-present, present-nonzero}
 use Rattle.semantics.proofs.Words.{prefix-cons, prefix-refl, middle≢nil}
 use Rattle.semantics.proofs.Runs.{runs-append, runs-letter, runs-in}
 use Rattle.semantics.proofs.Pairs.{PairStep, left, right, joint, Implements}
@@ -23,7 +23,7 @@ pub data Part (ways : ℕ → Way) (c : System) : ℕ → List ℕ → List ℕ 
   inner : {q q′ r : ℕ} {u w : List ℕ} → c .step q 0 q′ ≡ true → Part ways c q′ u w r → Part ways c q u w r
   own : {q q′ r : ℕ} {u w : List ℕ} (x : ℕ) → x ≢ 0 → ways x ≡ Absent → c .step q x q′ ≡ true → Part ways c q′ u w r → Part ways c q u (x ∷ w) r
   theirs : {q r : ℕ} {u w : List ℕ} (x : ℕ) → c .way x ≡ Absent → Part ways c q u w r → Part ways c q (x ∷ u) (x ∷ w) r
-  shared : {q q′ r : ℕ} {u w : List ℕ} (x : ℕ) → Sync (ways x) (c .way x) → c .step q x q′ ≡ true → Part ways c q′ u w r → Part ways c q (x ∷ u) w r
+  shared : {q q′ r : ℕ} {u w : List ℕ} (x : ℕ) → Synced (ways x) (c .way x) → c .step q x q′ ≡ true → Part ways c q′ u w r → Part ways c q (x ∷ u) w r
 
 pub part-append : {ways : ℕ → Way} {c : System} {q r s : ℕ} {u w u′ w′ : List ℕ} → Part ways c q u w r → Part ways c r u′ w′ s
     → Part ways c q (u ++ u′) (w ++ w′) s
@@ -48,7 +48,7 @@ module _ {a c : System} (wfa : WellFormed a) where
       → (u : List ℕ) × Part (a .way) c q u w q′ × Runs a p u p′
   quiet-on {p} {q} {p₁} z (left x h s) (u, m, r) = (u, m, quiet (subst (λ k. a .step p k p₁ ≡ true) z s) r)
   quiet-on {p} {q} {p₁} {q₁} z (right x h s) (u, m, r) = (u, inner (subst (λ k. c .step q k q₁ ≡ true) z s) m, r)
-  quiet-on z (joint x h s t) (u, m, r) = (x ∷ u, shared x h t m, letter x (present-nonzero wfa (sync-present h)) s r)
+  quiet-on z (joint x h s t) (u, m, r) = (x ∷ u, shared x h t m, letter x (present-nonzero wfa (synced-present h)) s r)
 
   letter-on : {p q p₁ q₁ p′ q′ x : ℕ} {w : List ℕ} → x ≢ 0 → PairStep a c p q x p₁ q₁
       → (u : List ℕ) × Part (a .way) c q₁ u w q′ × Runs a p₁ u p′
@@ -85,7 +85,7 @@ part-front {ways} {c} {q} (x ∷ v) (shared y a k m) (s, e) =
 -- how c meets the other's letter x: it takes part in it, or does not have it
 abbrev pub Meets : (ways : ℕ → Way) (c : System) (q : ℕ) (x : ℕ) (w′ w : List ℕ) → Type 0
 Meets ways c q x w′ w =
-    (Sync (ways x) (c .way x) × ((q₂ : ℕ) × (c .step q x q₂ ≡ true)) × Prefix w′ w) ⊎ ((c .way x ≡ Absent) × Prefix (w′ ++ (x ∷ [])) w)
+    (Synced (ways x) (c .way x) × ((q₂ : ℕ) × (c .step q x q₂ ≡ true)) × Prefix w′ w) ⊎ ((c .way x ≡ Absent) × Prefix (w′ ++ (x ∷ [])) w)
 
 meets-cons : (ways : ℕ → Way) (c : System) (q x y : ℕ) (w′ w : List ℕ) → Meets ways c q x w′ w → Meets ways c q x (y ∷ w′) (y ∷ w)
 meets-cons ways c q x y w′ w (inl (h, k, pre)) = inl (h, k, prefix-cons y w′ w pre)
@@ -107,7 +107,7 @@ part-before {ways} {c} {q} (z ∷ v) x (theirs {w = w} y a m) (s, e) =
     (q′, y ∷ w′, subst (λ k. Part ways c q (k ∷ v) (y ∷ w′) q′) same (theirs y a m′), meets-cons ways c q′ x y w′ w t)
 part-before {ways} {c} {q} [] x (shared {q′ = q₁} {w = w} y a k m) (s, e) =
     let same : y ≡ x = cc in
-    (q, [], done, inl (subst (λ j. Sync (ways j) (c .way j)) same a, (q₁, subst (λ j. c .step q j q₁ ≡ true) same k), (w, refl)))
+    (q, [], done, inl (subst (λ j. Synced (ways j) (c .way j)) same a, (q₁, subst (λ j. c .step q j q₁ ≡ true) same k), (w, refl)))
 part-before {ways} {c} {q} (z ∷ v) x (shared y a k m) (s, e) =
     let (q′, w′, m′, t) = part-before v x m (s, cc) in
     let same : y ≡ z = cc in

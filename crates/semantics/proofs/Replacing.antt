@@ -10,9 +10,9 @@ use Rattle.semantics.specs.declared.way.Way.the-variants.{Absent, Input, Outpu
 use Rattle.semantics.specs.System.{System, WellFormed, accepts}
 use Rattle.semantics.specs.Trace.{Runs, here, letter, After, Word, ErrorTrace, Trace, Flooded}
 use Rattle.semantics.specs.Replacement.{MayReplace}
-use Rattle.semantics.specs.Coupling.{Composable, joined, CoupledError, first-fails, second-fails, second-misses, first-misses}
+use Rattle.semantics.specs.Coupling.{Synced, Composable, joined, CoupledError, first-fails, second-fails, second-misses, first-misses}
 use Rattle.semantics.specs.Theorems.{Coupling-preserves-replacement, Replacement-is-reflexive, Replacement-chains}
-use Rattle.semantics.proofs.Ways.{Sync, present-nonzero, input-present, output-present, input≢output}
+use Rattle.semantics.proofs.Ways.{present-nonzero, input-present, output-present, input≢output}
 use Rattle.semantics.proofs.Words.{prefix-append, word-like, outputs-like}
 use Rattle.semantics.proofs.Runs.{runs-append, runs-split, runs-letter, runs-in, runs-word}
 use Rattle.semantics.proofs.Errors.{Cause, cause, error-trace, cause-error, cause-missed, cause-longer, cause-shorter}
@@ -20,7 +20,7 @@ use Rattle.semantics.proofs.Couplings.{coupling-is-well-formed}
 use Rattle.semantics.proofs.Pairs.{Implements, couple-implements, swapped}
 use Rattle.semantics.proofs.Parts.{Part, done, theirs, shared, part-append, part-in, project, part-front, part-before, Meets, recompose, runs-away}
 
-sent : {v w : Way} → Sync v w → v ≡ Input → w ≡ Output
+sent : {v w : Way} → Synced v w → v ≡ Input → w ≡ Output
 sent (inl (h, k)) is = absurd (input≢output (sym is ∙ h))
 sent (inr (h, k)) is = k
 

@@ -9,7 +9,7 @@ use Rattle.semantics.specs.declared.way.Way.{Way}
 use Rattle.semantics.specs.declared.way.Way.the-variants.{Absent, Input, Output}
 use Rattle.semantics.specs.Way.{number, isInput, isOutput}
 use Rattle.semantics.specs.System.{System, WellFormed}
-use Rattle.semantics.specs.Coupling.{joined, sends, synced}
+use Rattle.semantics.specs.Coupling.{Synced, joined, sends, synced}
 
 pub input≢absent : Input ≢ Absent
 input≢absent e = let z : _≡_ {A = ℕ} 1 0 = ap number e in omega arith
@@ -52,17 +52,13 @@ present-make Output h = refl
 
 -- ---- two ways, as a coupling has them
 
--- an output of one and an input of the other
-abbrev pub Sync : Way → Way → Type 0
-Sync v w = ((v ≡ Output) × (w ≡ Input)) ⊎ ((v ≡ Input) × (w ≡ Output))
+pub synced-swap : {v w : Way} → Synced v w → Synced w v
+synced-swap (inl (h, k)) = inr (k, h)
+synced-swap (inr (h, k)) = inl (k, h)
 
-pub sync-swap : {v w : Way} → Sync v w → Sync w v
-sync-swap (inl (h, k)) = inr (k, h)
-sync-swap (inr (h, k)) = inl (k, h)
-
-pub sync-present : {v w : Way} → Sync v w → v ≢ Absent
-sync-present (inl (h, k)) = output-present h
-sync-present (inr (h, k)) = input-present h
+pub synced-present : {v w : Way} → Synced v w → v ≢ Absent
+synced-present (inl (h, k)) = output-present h
+synced-present (inr (h, k)) = input-present h
 
 pub sends-view : (v w : Way) → sends v w ≡ true → (v ≡ Output) × (w ≡ Input)
 sends-view Absent w e = absurd (false≢true e)
@@ -72,23 +68,23 @@ sends-view Output w e = (refl, input-view w e)
 pub sends-make : {v w : Way} → v ≡ Output → w ≡ Input → sends v w ≡ true
 sends-make h k = rw (h, k)
 
-pub synced-view : (v w : Way) → synced v w ≡ true → Sync v w
+pub synced-view : (v w : Way) → synced v w ≡ true → Synced v w
 synced-view v w e =
     elim (or-cases (sends v w) (sends w v) e) [
       | inl t ↦ inl (sends-view v w t)
-      | inr t ↦ sync-swap (inl (sends-view w v t))
+      | inr t ↦ synced-swap (inl (sends-view w v t))
     ]
 
-pub synced-make : {v w : Way} → Sync v w → synced v w ≡ true
+pub synced-make : {v w : Way} → Synced v w → synced v w ≡ true
 synced-make {v} {w} (inl (h, k)) = or-left (sends v w) (sends w v) (sends-make h k)
 synced-make {v} {w} (inr (h, k)) = or-right (sends v w) (sends w v) (sends-make k h)
 
 -- an action that the other part does not have is not synchronised
-pub lone-left : {v w : Way} → w ≡ Absent → Sync v w → ⊥
-lone-left a s = sync-present (sync-swap s) a
+pub lone-left : {v w : Way} → w ≡ Absent → Synced v w → ⊥
+lone-left a s = synced-present (synced-swap s) a
 
 -- an action of one part that is not synchronised is none of the other
-pub lone : (v w : Way) → v ≢ Absent → (v ≡ Input → w ≡ Input → ⊥) → (v ≡ Output → w ≡ Output → ⊥) → (Sync v w → ⊥) → w ≡ Absent
+pub lone : (v w : Way) → v ≢ Absent → (v ≡ Input → w ≡ Input → ⊥) → (v ≡ Output → w ≡ Output → ⊥) → (Synced v w → ⊥) → w ≡ Absent
 lone v Absent h i o n = refl
 lone Absent Input h i o n = absurd (h refl)
 lone Input Input h i o n = absurd (i refl refl)
@@ -109,7 +105,7 @@ joined-comm Output Input = refl
 joined-comm Output Output = refl
 
 -- an action that is not synchronised stays
-pub joined-present : (v w : Way) → v ≢ Absent → (Sync v w → ⊥) → joined v w ≢ Absent
+pub joined-present : (v w : Way) → v ≢ Absent → (Synced v w → ⊥) → joined v w ≢ Absent
 joined-present Absent w h n = absurd (h refl)
 joined-present Input Absent h n = input≢absent
 joined-present Input Input h n = input≢absent
