@@ -146,9 +146,9 @@ module _ {e : System} (wf : WellFormed e) where
       let (q, bad, t) = closure-view (λ q p. local e p q) (e .states) (e .error) p h in
       illegal-steps t ([], q, here, tt, bad)
 
-  illegal-before : (p q : ℕ) → local e p q ≡ true → illegal e q ≡ true → illegal e p ≡ true
+  illegal-test-before : (p q : ℕ) → local e p q ≡ true → illegal e q ≡ true → illegal e p ≡ true
   unfolding illegal
-  illegal-before p q s h = closure-on (λ q p. local e p q) (e .states) local-inside (e .error) h (go-on s stay)
+  illegal-test-before p q s h = closure-on (λ q p. local e p q) (e .states) local-inside (e .error) h (go-on s stay)
 
   illegal-here : (p : ℕ) → e .error p ≡ true → illegal e p ≡ true
   unfolding illegal
@@ -156,8 +156,8 @@ module _ {e : System} (wf : WellFormed e) where
 
   illegal-run : {p q : ℕ} {o : List ℕ} → Runs e p o q → Outputs e o → e .error q ≡ true → illegal e p ≡ true
   illegal-run {p} here outs bad = illegal-here p bad
-  illegal-run (quiet {p = p} {q = q} s t) outs bad = illegal-before p q (local-quiet p q s) (illegal-run t outs bad)
-  illegal-run (letter {p = p} {q = q} a n s t) outs bad = illegal-before p q (local-output p a q (outs .0) s) (illegal-run t (outs .1) bad)
+  illegal-run (quiet {p = p} {q = q} s t) outs bad = illegal-test-before p q (local-quiet p q s) (illegal-run t outs bad)
+  illegal-run (letter {p = p} {q = q} a n s t) outs bad = illegal-test-before p q (local-output p a q (outs .0) s) (illegal-run t (outs .1) bad)
 
   pub illegal-make : (p : ℕ) → Illegal e p → illegal e p ≡ true
   illegal-make p (o, q, t, outs, bad) = illegal-run t outs bad

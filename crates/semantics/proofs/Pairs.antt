@@ -2,13 +2,13 @@
 use Prim.Native.Nat.{ℕ, _<_}
 use mathlib.Core.Path.{_≡_, refl, sym, ap, subst, subst₂, _∙_}
 use mathlib.Core.Logic.{_⊎_, inl, inr}
-use mathlib.Core.Bool.{Bool, true, false}
+use mathlib.Core.Bool.{true, false}
 use lib.Arith.{digits-div, digits-mod}
-use Rattle.std.proofs.shelf.Tests.{both-ways, cases-bool}
+use Rattle.std.proofs.shelf.Tests.{both-ways}
 use Rattle.semantics.specs.declared.way.Way.the-variants.{Absent, Input}
 use Rattle.semantics.specs.System.{System, WellFormed, accepts}
 use Rattle.semantics.specs.Coupling.{Synced, Composable, pairNumber, joined, CoupledStep, first, second, both, CoupledError, first-fails, second-fails, second-misses, first-misses, couple}
-use Rattle.semantics.proofs.Search.{accepts-view, accepts-make}
+use Rattle.semantics.proofs.Search.{false-if, accepts-view, accepts-make}
 use Rattle.semantics.proofs.Ways.{synced-swap, lone, lone-left, joined-comm, joined-input, input≢absent}
 use Rattle.semantics.proofs.Couplings.{one, two, step-view, step-make, error-view, error-make, coupling-is-well-formed, parts-in, pair-parts}
 
@@ -33,9 +33,6 @@ pub record Implements (e a c : System) (enc : ℕ → ℕ → ℕ) (one two : �
   pub misses-right : {z x : ℕ} → z < e .states → a .way x ≡ Absent → c .way x ≡ Input → accepts e z x ≡ false → accepts c (two z) x ≡ false
   pub left-misses : {p q x : ℕ} → p < a .states → q < c .states → a .way x ≡ Input → c .way x ≡ Absent → accepts a p x ≡ false → accepts e (enc p q) x ≡ false
   pub right-misses : {p q x : ℕ} → p < a .states → q < c .states → a .way x ≡ Absent → c .way x ≡ Input → accepts c q x ≡ false → accepts e (enc p q) x ≡ false
-
-false-if : {b : Bool} → (b ≡ true → ⊥) → b ≡ false
-false-if {b} h = elim (cases-bool b) [ inl t ↦ absurd (h t) | inr t ↦ t ]
 
 -- an input of one side alone is taken by that side
 only-left : {a c : System} {p q x p′ q′ : ℕ} → WellFormed a → a .way x ≡ Input → PairStep a c p q x p′ q′ → a .step p x p′ ≡ true

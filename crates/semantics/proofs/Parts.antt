@@ -83,28 +83,28 @@ part-front {ways} {c} {q} (x ∷ v) (shared y a k m) (s, e) =
     (q′, w′, subst (λ k. Part ways c q (k ∷ v) w′ q′) same (shared y a k m′), pre)
 
 -- how c meets the other's letter x: it takes part in it, or does not have it
-abbrev pub Meets : (ways : ℕ → Way) (c : System) (q : ℕ) (x : ℕ) (w′ w : List ℕ) → Type 0
-Meets ways c q x w′ w =
+abbrev pub MeetsLetter : (ways : ℕ → Way) (c : System) (q : ℕ) (x : ℕ) (w′ w : List ℕ) → Type 0
+MeetsLetter ways c q x w′ w =
     (Synced (ways x) (c .way x) × ((q₂ : ℕ) × (c .step q x q₂ ≡ true)) × Prefix w′ w) ⊎ ((c .way x ≡ Absent) × Prefix (w′ ++ (x ∷ [])) w)
 
-meets-cons : (ways : ℕ → Way) (c : System) (q x y : ℕ) (w′ w : List ℕ) → Meets ways c q x w′ w → Meets ways c q x (y ∷ w′) (y ∷ w)
-meets-cons ways c q x y w′ w (inl (h, k, pre)) = inl (h, k, prefix-cons y w′ w pre)
-meets-cons ways c q x y w′ w (inr (h, pre)) = inr (h, prefix-cons y (w′ ++ (x ∷ [])) w pre)
+meets-letter-cons : (ways : ℕ → Way) (c : System) (q x y : ℕ) (w′ w : List ℕ) → MeetsLetter ways c q x w′ w → MeetsLetter ways c q x (y ∷ w′) (y ∷ w)
+meets-letter-cons ways c q x y w′ w (inl (h, k, pre)) = inl (h, k, prefix-cons y w′ w pre)
+meets-letter-cons ways c q x y w′ w (inr (h, pre)) = inr (h, prefix-cons y (w′ ++ (x ∷ [])) w pre)
 
 -- the part up to the letter x behind a prefix of the other's word
 pub part-before : {ways : ℕ → Way} {c : System} {q r : ℕ} {u w : List ℕ} (v : List ℕ) (x : ℕ) → Part ways c q u w r → Prefix (v ++ (x ∷ [])) u
-    → (q′ : ℕ) × (w′ : List ℕ) × Part ways c q v w′ q′ × Meets ways c q′ x w′ w
+    → (q′ : ℕ) × (w′ : List ℕ) × Part ways c q v w′ q′ × MeetsLetter ways c q′ x w′ w
 part-before v x done (s, e) = absurd (middle≢nil v s x (sym (append-assoc v (x ∷ []) s) ∙ e))
 part-before v x (inner k m) h = let (q′, w′, m′, t) = part-before v x m h in (q′, w′, inner k m′, t)
 part-before {ways} {c} v x (own {w = w} y n a k m) h =
-    let (q′, w′, m′, t) = part-before v x m h in (q′, y ∷ w′, own y n a k m′, meets-cons ways c q′ x y w′ w t)
+    let (q′, w′, m′, t) = part-before v x m h in (q′, y ∷ w′, own y n a k m′, meets-letter-cons ways c q′ x y w′ w t)
 part-before {ways} {c} {q} [] x (theirs {w = w} y a m) (s, e) =
     let same : y ≡ x = cc in
     (q, [], done, inr (subst (λ k. c .way k ≡ Absent) same a, (w, cc)))
 part-before {ways} {c} {q} (z ∷ v) x (theirs {w = w} y a m) (s, e) =
     let (q′, w′, m′, t) = part-before v x m (s, cc) in
     let same : y ≡ z = cc in
-    (q′, y ∷ w′, subst (λ k. Part ways c q (k ∷ v) (y ∷ w′) q′) same (theirs y a m′), meets-cons ways c q′ x y w′ w t)
+    (q′, y ∷ w′, subst (λ k. Part ways c q (k ∷ v) (y ∷ w′) q′) same (theirs y a m′), meets-letter-cons ways c q′ x y w′ w t)
 part-before {ways} {c} {q} [] x (shared {q′ = q₁} {w = w} y a k m) (s, e) =
     let same : y ≡ x = cc in
     (q, [], done, inl (subst (λ j. Synced (ways j) (c .way j)) same a, (q₁, subst (λ j. c .step q j q₁ ≡ true) same k), (w, refl)))

@@ -18,7 +18,7 @@ use Rattle.semantics.proofs.Runs.{runs-append, runs-split, runs-letter, runs-i
 use Rattle.semantics.proofs.Errors.{Cause, cause, error-trace, cause-error, cause-missed, cause-longer, cause-shorter}
 use Rattle.semantics.proofs.Couplings.{coupling-is-well-formed}
 use Rattle.semantics.proofs.Pairs.{Implements, couple-implements, swapped}
-use Rattle.semantics.proofs.Parts.{Part, done, theirs, shared, part-append, part-in, project, part-front, part-before, Meets, recompose, runs-away}
+use Rattle.semantics.proofs.Parts.{Part, done, theirs, shared, part-append, part-in, project, part-front, part-before, MeetsLetter, recompose, runs-away}
 
 sent : {v w : Way} → Synced v w → v ≡ Input → w ≡ Output
 sent (inl (h, k)) is = absurd (input≢output (sym is ∙ h))
@@ -44,7 +44,7 @@ module _ {b c f : System} {enc : ℕ → ℕ → ℕ} {one two : ℕ → ℕ} (w
       inl (w′, enc p q, pre′, together m′ t, runs-away wfb wfc J apart s (after-in t) (part-end m′) outs bad)
   carry u w (inr (v, x, pre, is, (p, t, misses))) m = let (q, w′, m′, k) = part-before v x m pre in met q w′ m′ k
     where
-      met : (q : ℕ) (w′ : List ℕ) → Part (b .way) c (c .start) v w′ q → Meets (b .way) c q x w′ w → Cause f w
+      met : (q : ℕ) (w′ : List ℕ) → Part (b .way) c (c .start) v w′ q → MeetsLetter (b .way) c q x w′ w → Cause f w
       met q w′ m′ (inl (h, (q₂, s), pre′)) =
           cause-longer f w′ w pre′
           (cause-error f w′ (enc p q, together m′ t, J .error-make (after-in t) (part-end m′) (first-misses x q₂ is (sent h is) s misses)))

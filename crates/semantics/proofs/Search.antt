@@ -4,8 +4,11 @@ use mathlib.Core.Path.{_≡_, refl, sym, ap, _∙_}
 use mathlib.Core.Logic.{inl, inr}
 use mathlib.Core.Bool.{Bool, true, false, false≢true}
 use native.Mathlib.Omega.{arith}
-use Rattle.std.proofs.shelf.Tests.{or-cases, or-left, or-right, cases-eq}
+use Rattle.std.proofs.shelf.Tests.{or-cases, or-left, or-right, cases-bool, cases-eq}
 use Rattle.semantics.specs.System.{System, WellFormed, any, hasStep, accepts}
+
+pub false-if : {b : Bool} → (b ≡ true → ⊥) → b ≡ false
+false-if {b} h = elim (cases-bool b) [ inl t ↦ absurd (h t) | inr t ↦ t ]
 
 pub same-test : (s t : Bool) → (s ≡ true → t ≡ true) → (t ≡ true → s ≡ true) → s ≡ t
 same-test true t f g = sym (f refl)

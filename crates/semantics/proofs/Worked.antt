@@ -16,7 +16,7 @@ use Rattle.semantics.specs.Replacement.{MayReplace}
 use Rattle.semantics.specs.Coupling.{couple, stepAt, missedAt, errorAt}
 use Rattle.semantics.specs.Deciding.{only, meets, grown, grownBy, closure, moved, reach, next, walk, after, local, illegal, fails, misses, isWord, isTrace, errs, isErrorTrace}
 use Rattle.semantics.specs.Examples.{stepIn, stateIn, oneOfEach, small, doomed, replying, silent, Late-input-is-missed, Output-into-error-counts-before-it, Silent-may-replace-replying, Replying-may-not-replace-silent, Relay-misses-a-second-reply}
-use Rattle.semantics.proofs.Search.{accepts-view, accepts-make}
+use Rattle.semantics.proofs.Search.{false-if, accepts-view, accepts-make}
 use Rattle.semantics.proofs.Ways.{input≢absent, input≢output, present-view}
 use Rattle.semantics.proofs.Words.{word-like, outputs-like}
 use Rattle.semantics.proofs.Errors.{Cause, cause, error-trace}
@@ -144,10 +144,7 @@ module _ (a b : System) (wfa : WellFormed a) (start : a .start ≡ b .start) (wa
 
   missed-like : (p x : ℕ) → b .way x ≡ Input → accepts a p x ≡ false → accepts b p x ≡ false
   missed-like p x is n =
-      elim (cases-bool (accepts b p x)) [
-        | inl t ↦ (let (q, s) = accepts-view b p x t in absurd (both-ways _ n (accepts-make wfa (inputs p x q is s))))
-        | inr t ↦ t
-      ]
+      false-if (λ t. let (q, s) = accepts-view b p x t in both-ways _ n (accepts-make wfa (inputs p x q is s)))
 
   cause-like : (w : List ℕ) → Cause a w → Cause b w
   cause-like w (inl (u, p, pre, t, (o, q, s, outs, bad))) =
