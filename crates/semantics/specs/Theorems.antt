@@ -18,7 +18,7 @@ Coupling-preserves-replacement =
     (a b c : System) → WellFormed a → WellFormed b → WellFormed c → Composable a c → MayReplace a b
     → MayReplace (couple a c) (couple b c) × MayReplace (couple c a) (couple c b)
 
--- Replacement is an order: every system may replace itself, and replacements chain.
+-- Replacement is a preorder: every system may replace itself, and replacements chain.
 abbrev pub Replacement-is-reflexive : Type 0
 Replacement-is-reflexive = (a : System) → MayReplace a a
 
@@ -37,7 +37,7 @@ abbrev pub Coupling-is-determined : Type 0
 Coupling-is-determined =
     (a b c : System) → WellFormed a → WellFormed b → WellFormed c → IsCoupling a b c → Same c (couple a b)
 
--- A word is an error trace exactly where some front of it can lead to an illegal state, or an input of it is missed.
+-- A word is an error trace exactly where some prefix of it can lead to an illegal state, or an input of it is missed.
 abbrev pub Error-traces-by-illegal-states : Type 0
 Error-traces-by-illegal-states =
     (e : System) (w : List ℕ)

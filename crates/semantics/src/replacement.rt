@@ -1,4 +1,4 @@
-// Theorems: what may replace a system may replace it in every coupling, and replacement is an order.
+// Theorems: what may replace a system may replace it in every coupling, and replacement is a preorder.
 ghost use Rattle.semantics.specs.Theorems.{Coupling-preserves-replacement, Replacement-is-reflexive, Replacement-chains};
 
 // If a may replace b, and c is composable with them, then a coupled with c may replace b coupled with c, and the same
