@@ -1,4 +1,6 @@
 // The text of a table.
+#![tactic(auto)]
+
 mod lines;
 mod text;
 

@@ -1,4 +1,6 @@
 // Reading of tables and evidence from bytes.
+#![tactic(auto)]
+
 mod draft;
 mod evidence;
 mod fault;

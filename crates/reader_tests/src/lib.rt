@@ -1,4 +1,5 @@
 // Examples of what the reader takes and refuses.
+#![tactic(auto)]
 
 #[cfg(test)]
 mod evidence;

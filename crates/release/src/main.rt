@@ -1,4 +1,6 @@
 // Shows what table files hold.
+#![tactic(auto)]
+
 mod demo;
 mod help;
 mod tables;

@@ -1,4 +1,6 @@
 // Stations by number: what a roster is, the roster of tables, and the layer of couplings over any roster.
+#![tactic(auto)]
+
 mod coupled;
 mod coupling;
 mod facts;
