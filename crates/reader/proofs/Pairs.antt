@@ -1,9 +1,8 @@
 -- The records of a certificate, one by one.
-use Rattle.std.proofs.Common.{◌≡◌, ℕ, ◌+◌, ◌*◌, ◌<◌, ◌≤◌, eqb, ltb, ◌⊎◌, List, [], ◌∷◌, ◌++◌, length, get_or, Some, None, Ok, Err, Option, sym, refl, ap, ◌∙◌, ⊎_elim, arith}
+use Rattle.std.proofs.Common.{◌≡◌, ℕ, ◌+◌, ◌*◌, ◌<◌, ◌≤◌, eqb, ltb, List, [], ◌∷◌, ◌++◌, length, get_or, Some, None, Ok, Err, Option, sym, refl, ap, ◌∙◌, ⊎_elim, arith}
 use Rattle.std.proofs.lemmas.Bool.{cond-true, cond-false, eqb-true, eq-eqb, cases_eq, ne_eqb, lt-ltb, le-ltb}
 use Rattle.reader.specs.declared.fault.Fault.{Fault}
 use Rattle.reader.specs.declared.fault.Fault.TheVariants.{Cut, Kind, Length}
-use Rattle.reader.specs.declared.evidence.EvidenceFault as faults
 use Rattle.reader.specs.declared.evidence.EvidenceFault.TheVariants.{Record, Pairs}
 use Rattle.reader.specs.declared.pair.Pair.{Pair}
 use Rattle.reader.specs.Record.{front, records, size_of}

@@ -7,4 +7,4 @@ pub loop-from-init : goal.loop-from-init
 loop-from-init c = each_none (λ f. steps_from c.args.row.now f) (string_bytes c.args.out.now)
 
 pub loop-from-preserved : goal.loop-from-preserved
-loop-from-preserved c = each_more (λ f. steps_from c.args.row.now f) c.loop-from.from _ _ _ c.loop-from.invariant c.in-ok-add-steps-from.ensures
+loop-from-preserved c = each_more (λ f. steps_from c.args.row.now f) c.loop-from.from _ _ _ c.loop-from.invariant c.in_ok-add_steps_from.ensures

@@ -7,4 +7,4 @@ pub loop-action-init : goal.loop-action-init
 loop-action-init c = each_none (λ a. steps_under c.args.row.now c.args.from a) (string_bytes c.args.out.now)
 
 pub loop-action-preserved : goal.loop-action-preserved
-loop-action-preserved c = each_more (λ a. steps_under c.args.row.now c.args.from a) c.loop-action.action _ _ _ c.loop-action.invariant c.in-ok-add-steps-under.ensures
+loop-action-preserved c = each_more (λ a. steps_under c.args.row.now c.args.from a) c.loop-action.action _ _ _ c.loop-action.invariant c.in_ok-add_steps_under.ensures

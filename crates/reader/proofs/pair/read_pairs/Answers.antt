@@ -19,17 +19,17 @@ returns-then-len-ge4096 c =
     let e = sym (gather_full (items c.loop-rest.pairs) c.loop-rest.at c.loop-rest.rest.now (omega arith) (omega arith)) ∙ c.loop-rest.invariant.0 in
     record { outcome = e; told = pairs_break c.args.bytes.now _ (sym e); reads = λ ps l. e ∙ laid_pairs c.args.bytes.now ps l }
 
-pub returns-in-default : goal.returns-in-default
-returns-in-default c =
+pub returns-in_default : goal.returns-in_default
+returns-in_default c =
     let some = eqb-false (length c.loop-rest.rest.now) 0 (sym c.loop-rest-test.ensures) in
-    let e = sym (gather-cut (items c.loop-rest.pairs) c.loop-rest.at c.loop-rest.rest.now (omega arith) (omega arith) (sym c.in-default.ensures.front)) ∙ c.loop-rest.invariant.0 in
+    let e = sym (gather-cut (items c.loop-rest.pairs) c.loop-rest.at c.loop-rest.rest.now (omega arith) (omega arith) (sym c.in_default.ensures.front)) ∙ c.loop-rest.invariant.0 in
     record { outcome = e; told = pairs_break c.args.bytes.now _ (sym e); reads = λ ps l. e ∙ laid_pairs c.args.bytes.now ps l }
 
-pub returns-in-err-pair : goal.returns-in-err-pair
-returns-in-err-pair c =
-    let p = err_from_is_err_and c.from-residual.result c.from-residual.ensures.1 in
+pub returns-in_err-pair : goal.returns-in_err-pair
+returns-in_err-pair c =
+    let p = err_from_is_err_and c.from_residual.result c.from_residual.ensures.1 in
     let e =
-    sym (gather_refused (items c.loop-rest.pairs) c.loop-rest.at c.loop-rest.rest.now _ _ (omega arith) (sym c.in-Some.ensures.front) (sym c.in-err-pair.ensures))
+    sym (gather_refused (items c.loop-rest.pairs) c.loop-rest.at c.loop-rest.rest.now _ _ (omega arith) (sym c.in-Some.ensures.front) (sym c.in_err-pair.ensures))
     ∙ c.loop-rest.invariant.0 in
     rw (p.1, p.2) (record { outcome = e; told = pairs_break c.args.bytes.now _ (sym e); reads = λ ps l. e ∙ laid_pairs c.args.bytes.now ps l })
 
@@ -38,11 +38,11 @@ loop-rest-preserved c =
     let ps = items c.loop-rest.pairs in
     let room : length ps < 4096 = omega arith in
     let went : c.push.result ≡ true = c.push.ensures.room ∙ lt-ltb (length ps) 4096 room in
-    let more : items c.push.new.self ≡ ps ++ c.in-ok-pair.pair ∷ [] = c.push.ensures.after ∙ ap (λ b. cond b (ps ++ c.in-ok-pair.pair ∷ []) ps) went in
-    let grown = ap length more ∙ length_push ps c.in-ok-pair.pair in
-    let short = pair_short c.loop-rest.at c.in-Some.record.kind c.in-Some.record.body.now c.in-ok-pair.pair (sym c.in-ok-pair.ensures) in (
+    let more : items c.push.new.self ≡ ps ++ c.in_ok-pair.pair ∷ [] = c.push.ensures.after ∙ ap (λ b. cond b (ps ++ c.in_ok-pair.pair ∷ []) ps) went in
+    let grown = ap length more ∙ length_push ps c.in_ok-pair.pair in
+    let short = pair_short c.loop-rest.at c.in-Some.record.kind c.in-Some.record.body.now c.in_ok-pair.pair (sym c.in_ok-pair.ensures) in (
       ap (λ qs. gather qs (c.loop-rest.at + size_of c.in-Some.record.body.now) (records c.in-Some.behind.now)) more
-          ∙ sym (gather_more ps c.loop-rest.at c.loop-rest.rest.now _ c.in-ok-pair.pair room (sym c.in-Some.ensures.front) (sym c.in-ok-pair.ensures)) ∙ c.loop-rest.invariant.0,
+          ∙ sym (gather_more ps c.loop-rest.at c.loop-rest.rest.now _ c.in_ok-pair.pair room (sym c.in-Some.ensures.front) (sym c.in_ok-pair.ensures)) ∙ c.loop-rest.invariant.0,
       omega arith,
     )
 

@@ -27,4 +27,4 @@ loop-step-preserved c =
 pub returns : goal.returns
 returns c =
     sym (append-nil (items c.loop-step.moves))
-    ∙ sym (ap (λ xs. items c.loop-step.moves ++ xs) (moves_none c.loop-step.rest.now (sym c.in-default.ensures))) ∙ c.loop-step.invariant.0
+    ∙ sym (ap (λ xs. items c.loop-step.moves ++ xs) (moves_none c.loop-step.rest.now (sym c.in_default.ensures))) ∙ c.loop-step.invariant.0

@@ -8,10 +8,10 @@ use Rattle.reader.specs.Run.{recorded, run_in, outcome}
 use Rattle.reader.proofs.RunLists.{run_laid, laid_run, run_breaks}
 use Rattle.reader.proofs.run.read_run.Goals as goal
 
-pub returns-in-default : goal.returns-in-default
+pub returns-in_default : goal.returns-in_default
 unfolding run_in
-returns-in-default c =
-    let e = ap recorded c.in-default.ensures.front in
+returns-in_default c =
+    let e = ap recorded c.in_default.ensures.front in
     record { outcome = e; told = run_breaks c.args.bytes.now _ (sym e); reads = λ f ms l. e ∙ laid_run c.args.bytes.now f ms l }
 
 pub returns-then-record-ne18 : goal.returns-then-record-ne18
@@ -28,5 +28,5 @@ says bytes (Err f) e = run_breaks bytes f (sym e)
 pub returns : goal.returns
 unfolding run_in
 returns c =
-    let e = c.read-body.ensures ∙ sym (cond-true _ _ _ (eq-eqb c.in-Some.record.kind 18 c.if-record-ne18.false)) ∙ ap recorded c.in-Some.ensures.front in
-    record { outcome = e; told = says c.args.bytes.now c.read-body.result e; reads = λ f ms l. e ∙ laid_run c.args.bytes.now f ms l }
+    let e = c.read_body.ensures ∙ sym (cond-true _ _ _ (eq-eqb c.in-Some.record.kind 18 c.if-record-ne18.false)) ∙ ap recorded c.in-Some.ensures.front in
+    record { outcome = e; told = says c.args.bytes.now c.read_body.result e; reads = λ f ms l. e ∙ laid_run c.args.bytes.now f ms l }

@@ -20,53 +20,53 @@ loop-rest-init c =
       subst Keeps (sym r) (keeps_blank 1 0 (omega arith) (omega arith) (omega arith)),
     )
 
-pub returns-in-default : goal.returns-in-default
-returns-in-default c =
-    let going = sym c.is-closed.ensures ∙ c.loop-rest-test.true in
-    sym (follow_stops c.loop-rest.draft.row c.loop-rest.draft.stage c.loop-rest.at c.loop-rest.rest.now going (sym c.in-default.ensures.front)) ∙ c.loop-rest.invariant.0
+pub returns-in_default : goal.returns-in_default
+returns-in_default c =
+    let going = sym c.is_closed.ensures ∙ c.loop-rest-test.true in
+    sym (follow_stops c.loop-rest.draft.row c.loop-rest.draft.stage c.loop-rest.at c.loop-rest.rest.now going (sym c.in_default.ensures.front)) ∙ c.loop-rest.invariant.0
 
-pub returns-in-err-take : goal.returns-in-err-take
-returns-in-err-take c =
-    let p = err_from_is_err_and c.from-residual.result c.from-residual.ensures.1 in
-    let going = sym c.is-closed.ensures ∙ c.loop-rest-test.true in
+pub returns-in_err-take : goal.returns-in_err-take
+returns-in_err-take c =
+    let p = err_from_is_err_and c.from_residual.result c.from_residual.ensures.1 in
+    let going = sym c.is_closed.ensures ∙ c.loop-rest-test.true in
     let here = records-next c.loop-rest.rest.now _ (sym c.in-Some.ensures.front) in
     rw (p.1, p.2) (
-    sym (follow_refused c.loop-rest.draft.row c.loop-rest.draft.stage c.loop-rest.at c.in-Some.record.kind c.in-Some.record.body.now (records c.in-Some.behind.now) _ going (sym c.in-err-take.ensures))
+    sym (follow_refused c.loop-rest.draft.row c.loop-rest.draft.stage c.loop-rest.at c.in-Some.record.kind c.in-Some.record.body.now (records c.in-Some.behind.now) _ going (sym c.in_err-take.ensures))
     ∙ sym (ap (follow c.loop-rest.draft.row c.loop-rest.draft.stage c.loop-rest.at) here) ∙ c.loop-rest.invariant.0
     )
 
 -- what the record that is taken in adds
-adds : (c : goal.In-ok-take) → (c.loop-rest.at + size_of c.in-Some.record.body.now ≡ sized c.take.new.self.row c.take.new.self.stage) × Keeps c.take.new.self.row
+adds : (c : goal.In_ok-take) → (c.loop-rest.at + size_of c.in-Some.record.body.now ≡ sized c.take.new.self.row c.take.new.self.stage) × Keeps c.take.new.self.row
 adds c =
-    let e = entry c.loop-rest.draft.row c.loop-rest.draft.stage c.loop-rest.at c.in-Some.record.kind c.in-Some.record.body.now (c.take.new.self.row, c.take.new.self.stage) (sym c.in-ok-take.ensures) in
+    let e = entry c.loop-rest.draft.row c.loop-rest.draft.stage c.loop-rest.at c.in-Some.record.kind c.in-Some.record.body.now (c.take.new.self.row, c.take.new.self.stage) (sym c.in_ok-take.ensures) in
     (ap (λ n. n + size_of c.in-Some.record.body.now) c.loop-rest.invariant.1 ∙ entry_sized e c.loop-rest.invariant.2, entry_keeps e c.loop-rest.invariant.2)
 
-pub overflow-add-at-in-loop-rest : goal.overflow-add-at-in-loop-rest
-overflow-add-at-in-loop-rest c =
+pub overflow_add-at-in-loop-rest : goal.overflow_add-at-in-loop-rest
+overflow_add-at-in-loop-rest c =
     let more = adds c in
     let few = sized_bound c.take.new.self.row c.take.new.self.stage more.1 in
     omega arith
 
 pub loop-rest-preserved : goal.loop-rest-preserved
 loop-rest-preserved c =
-    let going = sym c.is-closed.ensures ∙ c.loop-rest-test.true in
+    let going = sym c.is_closed.ensures ∙ c.loop-rest-test.true in
     let here = records-next c.loop-rest.rest.now _ (sym c.in-Some.ensures.front) in
     let more = adds c in (
-      sym (follow_more c.loop-rest.draft.row c.loop-rest.draft.stage c.loop-rest.at c.in-Some.record.kind c.in-Some.record.body.now (records c.in-Some.behind.now) (c.take.new.self.row, c.take.new.self.stage) going (sym c.in-ok-take.ensures))
+      sym (follow_more c.loop-rest.draft.row c.loop-rest.draft.stage c.loop-rest.at c.in-Some.record.kind c.in-Some.record.body.now (records c.in-Some.behind.now) (c.take.new.self.row, c.take.new.self.stage) going (sym c.in_ok-take.ensures))
           ∙ sym (ap (follow c.loop-rest.draft.row c.loop-rest.draft.stage c.loop-rest.at) here) ∙ c.loop-rest.invariant.0,
       more.0,
       more.1,
     )
 
-pub returns-then-not-is-empty : goal.returns-then-not-is-empty
-returns-then-not-is-empty c =
-    let shut = sym c.is-closed.ensures ∙ c.loop-rest-test.false in
-    let some = eqb-false (length c.loop-rest.rest.now) 0 (sym c.is-empty.ensures ∙ c.if-not-is-empty.true) in
+pub returns-then-not-is_empty : goal.returns-then-not-is_empty
+returns-then-not-is_empty c =
+    let shut = sym c.is_closed.ensures ∙ c.loop-rest-test.false in
+    let some = eqb-false (length c.loop-rest.rest.now) 0 (sym c.is_empty.ensures ∙ c.if-not-is_empty.true) in
     sym (follow_trails c.loop-rest.draft.row c.loop-rest.draft.stage c.loop-rest.at c.loop-rest.rest.now shut (omega arith)) ∙ c.loop-rest.invariant.0
 
 pub returns : goal.returns
 returns c =
-    let shut = sym c.is-closed.ensures ∙ c.loop-rest-test.false in
-    let empty = eqb-true (length c.loop-rest.rest.now) 0 (sym c.is-empty.ensures ∙ c.if-not-is-empty.false) in
+    let shut = sym c.is_closed.ensures ∙ c.loop-rest-test.false in
+    let empty = eqb-true (length c.loop-rest.rest.now) 0 (sym c.is_empty.ensures ∙ c.if-not-is_empty.false) in
     sym (follow_done c.loop-rest.draft.row c.loop-rest.draft.stage c.loop-rest.at shut)
     ∙ sym (ap (follow c.loop-rest.draft.row c.loop-rest.draft.stage c.loop-rest.at) (records-none c.loop-rest.rest.now empty)) ∙ c.loop-rest.invariant.0

@@ -6,11 +6,11 @@ use Rattle.roster.proofs.facts.has_stray_step.Goals as goal
 pub loop-place-init : goal.loop-place-init
 loop-place-init c = any_none _
 
-pub returns-then-is-stray-step : goal.returns-then-is-stray-step
-returns-then-is-stray-step c = sym (any_make _ _ c.loop-place.place c.loop-place-test.true (sym c.if-is-stray-step.ensures))
+pub returns-then-is_stray_step : goal.returns-then-is_stray_step
+returns-then-is_stray_step c = sym (any_make _ _ c.loop-place.place c.loop-place-test.true (sym c.if-is_stray_step.ensures))
 
 pub loop-place-preserved : goal.loop-place-preserved
-loop-place-preserved c = any_more _ c.loop-place.place c.loop-place.invariant (sym c.if-is-stray-step.ensures)
+loop-place-preserved c = any_more _ c.loop-place.place c.loop-place.invariant (sym c.if-is_stray_step.ensures)
 
 pub returns : goal.returns
 returns c = sym (any_lower _ _ c.loop-place.place c.loop-place-test.false c.loop-place.invariant)
