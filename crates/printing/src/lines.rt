@@ -4,10 +4,10 @@ ghost use Rattle.printing.specs.Text.{head_line, way_line, action_lines, step_of
 
 use reader::{Row, Step};
 use semantics::Way;
-use std::fmt;
+use std::alloc::AllocError;
 
 // The number of states and the start.
-pub fn add_head(out: &mut String, row: &Row) -> fmt::Result
+pub fn add_head(out: &mut String, row: &Row) -> Result<(), AllocError>
     ensures { OnOk result (string_bytes out.new ≡ string_bytes out.old ++ head_line row.now.states row.now.start) }
 {
     let states = row.states;
@@ -15,7 +15,7 @@ pub fn add_head(out: &mut String, row: &Row) -> fmt::Result
     write!(out, "states {states} start {start}\n")
 }
 
-fn add_way(out: &mut String, way: Way, action: u8) -> fmt::Result
+fn add_way(out: &mut String, way: Way, action: u8) -> Result<(), AllocError>
     ensures { OnOk result (string_bytes out.new ≡ string_bytes out.old ++ way_line way action) }
 {
     match way {
@@ -26,7 +26,7 @@ fn add_way(out: &mut String, way: Way, action: u8) -> fmt::Result
 }
 
 // The actions that have a way.
-pub fn add_actions(out: &mut String, row: &Row) -> fmt::Result
+pub fn add_actions(out: &mut String, row: &Row) -> Result<(), AllocError>
     ensures { OnOk result (string_bytes out.new ≡ string_bytes out.old ++ action_lines row.now) }
 {
     for action in 0..33 {
@@ -35,7 +35,7 @@ pub fn add_actions(out: &mut String, row: &Row) -> fmt::Result
     Ok(())
 }
 
-fn add_step(out: &mut String, row: &Row, from: u8, action: u8, to: u8) -> fmt::Result
+fn add_step(out: &mut String, row: &Row, from: u8, action: u8, to: u8) -> Result<(), AllocError>
     ensures { OnOk result (string_bytes out.new ≡ string_bytes out.old ++ step_of row.now from action to) }
 {
     if row.has_step(Step { from, action, to }) {
@@ -44,7 +44,7 @@ fn add_step(out: &mut String, row: &Row, from: u8, action: u8, to: u8) -> fmt::R
     Ok(())
 }
 
-fn add_steps_under(out: &mut String, row: &Row, from: u8, action: u8) -> fmt::Result
+fn add_steps_under(out: &mut String, row: &Row, from: u8, action: u8) -> Result<(), AllocError>
     ensures { OnOk result (string_bytes out.new ≡ string_bytes out.old ++ steps_under row.now from action) }
 {
     for to in 0..row.states {
@@ -53,7 +53,7 @@ fn add_steps_under(out: &mut String, row: &Row, from: u8, action: u8) -> fmt::Re
     Ok(())
 }
 
-fn add_steps_from(out: &mut String, row: &Row, from: u8) -> fmt::Result
+fn add_steps_from(out: &mut String, row: &Row, from: u8) -> Result<(), AllocError>
     ensures { OnOk result (string_bytes out.new ≡ string_bytes out.old ++ steps_from row.now from) }
 {
     for action in 0..33 {
@@ -63,7 +63,7 @@ fn add_steps_from(out: &mut String, row: &Row, from: u8) -> fmt::Result
 }
 
 // The steps that are told, from state to state.
-pub fn add_steps(out: &mut String, row: &Row) -> fmt::Result
+pub fn add_steps(out: &mut String, row: &Row) -> Result<(), AllocError>
     ensures { OnOk result (string_bytes out.new ≡ string_bytes out.old ++ step_lines row.now) }
 {
     for from in 0..row.states {
@@ -72,7 +72,7 @@ pub fn add_steps(out: &mut String, row: &Row) -> fmt::Result
     Ok(())
 }
 
-fn add_error(out: &mut String, row: &Row, state: u8) -> fmt::Result
+fn add_error(out: &mut String, row: &Row, state: u8) -> Result<(), AllocError>
     ensures { OnOk result (string_bytes out.new ≡ string_bytes out.old ++ error_of row.now state) }
 {
     if row.is_error(state) {
@@ -82,7 +82,7 @@ fn add_error(out: &mut String, row: &Row, state: u8) -> fmt::Result
 }
 
 // The errors.
-pub fn add_errors(out: &mut String, row: &Row) -> fmt::Result
+pub fn add_errors(out: &mut String, row: &Row) -> Result<(), AllocError>
     ensures { OnOk result (string_bytes out.new ≡ string_bytes out.old ++ error_lines row.now) }
 {
     for state in 0..64 {

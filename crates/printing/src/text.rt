@@ -6,9 +6,8 @@ ghost use Rattle.printing.specs.Text.{row_text, refused_text, table_text};
 use crate::lines::{add_actions, add_errors, add_head, add_steps};
 use reader::{Row, Table};
 use std::alloc::{AllocError, Global};
-use std::fmt;
 
-fn add_row(out: &mut String, row: &Row) -> fmt::Result
+fn add_row(out: &mut String, row: &Row) -> Result<(), AllocError>
     ensures { OnOk result (string_bytes out.new ≡ string_bytes out.old ++ row_text row.now) }
 {
     add_head(out, row)?;
@@ -23,10 +22,8 @@ pub fn row_text(heap: Global, row: &Row) -> Result<String, AllocError>
     ensures { IfOk result (λ s. string_bytes s ≡ row_text row.now) }
 {
     let mut out = String::new(heap);
-    match add_row(&mut out, row) {
-        Ok(()) => Ok(out),
-        Err(_) => Err(AllocError),
-    }
+    add_row(&mut out, row)?;
+    Ok(out)
 }
 
 // The line of a refusal.

@@ -1,6 +1,6 @@
 -- Things that may be added to a row in turn are those of a lawful content, and the row is its row.
 use Rattle.std.proofs.Common.{◌≡◌, ℕ, suc, ◌+◌, ◌-◌, ◌<◌, ◌≤◌, min, Bool, true, false, cond, ◌&&◌, ◌||◌, eqb, leb, List, [], ◌∷◌, ◌++◌, length, get_or, take, set, replicate, sym, refl, ap, ◌∙◌, ⊎_elim, arith, length-append, length-set, get_or-set_other, get_or-set_same}
-use Rattle.std.specs.List.{AllByRecursion as All}
+use Rattle.std.specs.List.{AllByRecursion}
 use Rattle.std.proofs.lemmas.List.{take_more_set, set_at, append_assoc, append-nil}
 use Rattle.std.proofs.lemmas.Bool.{cases_Bool, cases_eq, cond-true, cond-false, and_from, and_parts, or_from, or_parts, or_left, or_right, eqb-true, eq-eqb, ne_eqb, true≢false}
 use Rattle.semantics.specs.declared.way.Way.{Way}
@@ -15,11 +15,11 @@ use Rattle.reader.proofs.Keeps.{way_new, way_other}
 use Rattle.reader.proofs.Parts.{all_ways, all_steps, all_errors, WaysFit, EachStepFits, EachErrorFits}
 
 -- facts of each element, from others
-all_zip : {X : Type 0} {P Q R : X → Type 0} → ((x : X) → P x → Q x → R x) → (xs : List X) → All P xs → All Q xs → All R xs
+all_zip : {X : Type 0} {P Q R : X → Type 0} → ((x : X) → P x → Q x → R x) → (xs : List X) → AllByRecursion P xs → AllByRecursion Q xs → AllByRecursion R xs
 all_zip f [] p q = tt
 all_zip f (x ∷ xs) p q = (f x p.0 q.0, all_zip f xs p.1 q.1)
 
-all_map : {X : Type 0} {P Q : X → Type 0} → ((x : X) → P x → Q x) → (xs : List X) → All P xs → All Q xs
+all_map : {X : Type 0} {P Q : X → Type 0} → ((x : X) → P x → Q x) → (xs : List X) → AllByRecursion P xs → AllByRecursion Q xs
 all_map f [] p = tt
 all_map f (x ∷ xs) p = (f x p.0, all_map f xs p.1)
 
@@ -43,14 +43,14 @@ fresh_after r a b len ok f =
 fresh_before : (r : Row) (a b : Action) → Sized a → (b.action ≡ a.action → ⊥) → Fresh r b → Fresh (with_way r a.action a.way) b
 fresh_before r a b ok apart f = ap declared (way_other r a.action b.action a.way ok.0 apart) ∙ f
 
-pub ways_once : (xs : List Action) (r : Row) → length r.ways ≡ 32 → WaysFit r xs → All Sized xs × Once (λ a. a.action) xs × All (Fresh r) xs
+pub ways_once : (xs : List Action) (r : Row) → length r.ways ≡ 32 → WaysFit r xs → AllByRecursion Sized xs × Once (λ a. a.action) xs × AllByRecursion (Fresh r) xs
 ways_once [] r len fit = (tt, tt, tt)
 ways_once (a ∷ xs) r len fit =
     let ok : Sized a = (fit.0.0, fit.0.1, fit.0.2) in
     let more = ways_once xs (with_way r a.action a.way) (length-set r.ways (a.action - 1) a.way ∙ len) fit.1 in
     ((ok, more.0), (all_map (λ b f. (fresh_after r a b len ok f).0) xs more.2, more.1), (fit.0.3, all_map (λ b f. (fresh_after r a b len ok f).1) xs more.2))
 
-pub once_ways : (xs : List Action) (r : Row) → All Sized xs → Once (λ a. a.action) xs → All (Fresh r) xs → WaysFit r xs
+pub once_ways : (xs : List Action) (r : Row) → AllByRecursion Sized xs → Once (λ a. a.action) xs → AllByRecursion (Fresh r) xs → WaysFit r xs
 once_ways [] r ok once fresh = tt
 once_ways (a ∷ xs) r ok once fresh = (
   (ok.0.0, ok.0.1, ok.0.2, fresh.0),
@@ -66,11 +66,11 @@ way_or-absent : (n : ℕ) (xs : List Action) → way_or Absent n xs ≡ way_in n
 way_or-absent n [] = refl
 way_or-absent n (a ∷ xs) = ap (cond (eqb n a.action) a.way) (way_or-absent n xs)
 
-way_or-not : (d : Way) (n : ℕ) (xs : List Action) → All (λ b. b.action ≡ n → ⊥) xs → way_or d n xs ≡ d
+way_or-not : (d : Way) (n : ℕ) (xs : List Action) → AllByRecursion (λ b. b.action ≡ n → ⊥) xs → way_or d n xs ≡ d
 way_or-not d n [] apart = refl
 way_or-not d n (a ∷ xs) apart = cond-false (eqb n a.action) a.way (way_or d n xs) (ne_eqb n a.action (λ e. apart.0 (sym e))) ∙ way_or-not d n xs apart.1
 
-way_of-all_ways : (n : ℕ) (xs : List Action) (r : Row) → length r.ways ≡ 32 → All Sized xs → Once (λ a. a.action) xs → way_of (all_ways r xs) n ≡ way_or (way_of r n) n xs
+way_of-all_ways : (n : ℕ) (xs : List Action) (r : Row) → length r.ways ≡ 32 → AllByRecursion Sized xs → Once (λ a. a.action) xs → way_of (all_ways r xs) n ≡ way_or (way_of r n) n xs
 way_of-all_ways n [] r len ok once = refl
 way_of-all_ways n (a ∷ xs) r len ok once =
     way_of-all_ways n xs (with_way r a.action a.way) (length-set r.ways (a.action - 1) a.way ∙ len) ok.1 once.1
@@ -90,10 +90,10 @@ way-blank n s k = go (leb 1 k && leb k 32)
     go true = get_or_alike 32 (k - 1) Absent
     go false = refl
 
-pub ways_in : (n s k : ℕ) (xs : List Action) → All Sized xs → Once (λ a. a.action) xs → way_of (all_ways (blank n s) xs) k ≡ way_in k xs
+pub ways_in : (n s k : ℕ) (xs : List Action) → AllByRecursion Sized xs → Once (λ a. a.action) xs → way_of (all_ways (blank n s) xs) k ≡ way_in k xs
 ways_in n s k xs ok once = way_of-all_ways k xs (blank n s) refl ok once ∙ ap (λ d. way_or d k xs) (way-blank n s k) ∙ way_or-absent k xs
 
-pub fresh-blank : (n s : ℕ) (xs : List Action) → All (Fresh (blank n s)) xs
+pub fresh-blank : (n s : ℕ) (xs : List Action) → AllByRecursion (Fresh (blank n s)) xs
 fresh-blank n s [] = tt
 fresh-blank n s (a ∷ xs) = (ap declared (way-blank n s a.action), fresh-blank n s xs)
 
@@ -153,7 +153,7 @@ untold_before r s t h room apart u =
     ap (told t) (listed_push r s h room) ∙ told_push t s (listed r)
     ∙ or_from (told t (listed r)) (same_step s t) u (⊎_elim (λ (e : same_step s t ≡ true). absurd (apart (sym (same_step_lem s t e)))) (λ (e : same_step s t ≡ false). e) (cases_Bool (same_step s t)))
 
-pub steps_once : (xs : List Step) (r : Row) → Held r → EachStepFits r xs → All (λ s. fitting r s ≡ true) xs × Once (λ s. s) xs × All (Untold r) xs × (r.count + length xs ≤ 256)
+pub steps_once : (xs : List Step) (r : Row) → Held r → EachStepFits r xs → AllByRecursion (λ s. fitting r s ≡ true) xs × Once (λ s. s) xs × AllByRecursion (Untold r) xs × (r.count + length xs ≤ 256)
 steps_once [] r h fit = (tt, tt, tt, omega arith)
 steps_once (s ∷ xs) r h fit =
     let room = fit.0.2 in
@@ -165,7 +165,7 @@ steps_once (s ∷ xs) r h fit =
       omega arith,
     )
 
-pub once_steps : (xs : List Step) (r : Row) → Held r → All (λ s. fitting r s ≡ true) xs → Once (λ s. s) xs → All (Untold r) xs → r.count + length xs ≤ 256 → EachStepFits r xs
+pub once_steps : (xs : List Step) (r : Row) → Held r → AllByRecursion (λ s. fitting r s ≡ true) xs → Once (λ s. s) xs → AllByRecursion (Untold r) xs → r.count + length xs ≤ 256 → EachStepFits r xs
 once_steps [] r h ok once new few = tt
 once_steps (s ∷ xs) r h ok once new few =
     let room : r.count < 256 = omega arith in (
@@ -173,7 +173,7 @@ once_steps (s ∷ xs) r h ok once new few =
       once_steps xs (with_step r s) (held_step r s h room) ok.1 once.1 (all_zip (λ t p q. untold_before r s t h room p q) xs once.0 new.1) (omega arith),
     )
 
-pub untold_none : (r : Row) → r.count ≡ 0 → (xs : List Step) → All (Untold r) xs
+pub untold_none : (r : Row) → r.count ≡ 0 → (xs : List Step) → AllByRecursion (Untold r) xs
 untold_none r e [] = tt
 untold_none r e (s ∷ xs) = let z : min r.count 256 ≡ 0 = omega arith in (ap (λ n. told s (take n r.steps)) z, untold_none r e xs)
 
@@ -220,7 +220,7 @@ unfailed_after r s t h l u =
     let apart : t ≡ s → ⊥ = λ e. true≢false (sym (error_new r s h l) ∙ ap (error_at (with_error r s)) (sym e) ∙ u) in
     (apart, sym (error_other r s t apart) ∙ u)
 
-pub errors_once : (xs : List ℕ) (r : Row) → Wide r → EachErrorFits r xs → All (λ s. s < r.states) xs × Once (λ s. s) xs × All (Unfailed r) xs
+pub errors_once : (xs : List ℕ) (r : Row) → Wide r → EachErrorFits r xs → AllByRecursion (λ s. s < r.states) xs × Once (λ s. s) xs × AllByRecursion (Unfailed r) xs
 errors_once [] r h fit = (tt, tt, tt)
 errors_once (s ∷ xs) r h fit =
     let more = errors_once xs (with_error r s) (wide_error r s h) fit.1 in (
@@ -229,12 +229,12 @@ errors_once (s ∷ xs) r h fit =
       (fit.0.1, all_map (λ t u. (unfailed_after r s t h fit.0.0 u).1) xs more.2),
     )
 
-pub once_errors : (xs : List ℕ) (r : Row) → All (λ s. s < r.states) xs → Once (λ s. s) xs → All (Unfailed r) xs → EachErrorFits r xs
+pub once_errors : (xs : List ℕ) (r : Row) → AllByRecursion (λ s. s < r.states) xs → Once (λ s. s) xs → AllByRecursion (Unfailed r) xs → EachErrorFits r xs
 once_errors [] r ok once new = tt
 once_errors (s ∷ xs) r ok once new =
     ((ok.0, new.0), once_errors xs (with_error r s) ok.1 once.1 (all_zip (λ t p q. error_other r s t p ∙ q) xs once.0 new.1))
 
-pub errors_in : (q : ℕ) (xs : List ℕ) (r : Row) → Wide r → All (λ s. s < r.states) xs → error_at (all_errors r xs) q ≡ (error_at r q || member q xs)
+pub errors_in : (q : ℕ) (xs : List ℕ) (r : Row) → Wide r → AllByRecursion (λ s. s < r.states) xs → error_at (all_errors r xs) q ≡ (error_at r q || member q xs)
 errors_in q [] r h ok = go (error_at r q)
   where
     go : (b : Bool) → b ≡ (b || false)

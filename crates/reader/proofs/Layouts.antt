@@ -1,6 +1,6 @@
 -- Bytes open as a table exactly where they are the records of a lawful content.
 use Rattle.std.proofs.Common.{◌≡◌, ℕ, zero, suc, ◌+◌, ◌-◌, ◌<◌, ◌≤◌, Bool, true, false, ◌&&◌, ◌||◌, eqb, ltb, List, [], ◌∷◌, ◌++◌, length, get_or, replicate, Ok, sym, refl, ap, ◌∙◌, subst, arith, length-set}
-use Rattle.std.specs.List.{AllByRecursion as All}
+use Rattle.std.specs.List.{AllByRecursion}
 use Rattle.std.proofs.lemmas.List.{ext_get_or}
 use Rattle.semantics.specs.declared.way.Way.TheVariants.{Absent}
 use Rattle.reader.specs.declared.row.Row.{Row}
@@ -49,7 +49,7 @@ get_or-tabled (suc n) (suc i) f d h = get_or-tabled n i (λ j. f (suc j)) d (ome
 abbrev content : ℕ → ℕ → List Action → List Step → List ℕ → Content
 content n s xs ss es = record { states = n; start = s; actions = xs; steps = ss; errors = es }
 
-module _ (n s : ℕ) (xs : List Action) (ok : All Sized xs) (once : Once (λ a. a.action) xs) where
+module _ (n s : ℕ) (xs : List Action) (ok : AllByRecursion Sized xs) (once : Once (λ a. a.action) xs) where
   -- what fits the row of the actions fits the content
   fits_same : (ss : List Step) (es : List ℕ) (t : Step) → fits (content n s xs ss es) t ≡ fitting (all_ways (blank n s) xs) t
   fits_same ss es t =
@@ -58,7 +58,7 @@ module _ (n s : ℕ) (xs : List Action) (ok : All Sized xs) (once : Once (λ a. 
       λ i. ltb t.from (sym k i) && (ltb t.to (sym k i) && (eqb t.action 0 || declared (sym w i)))
 
   -- the row that all things make is the content's row
-  row_is : (ss : List Step) (es : List ℕ) → length ss ≤ 256 → n ≤ 64 → All (λ e. e < n) es → all_errors (all_steps (all_ways (blank n s) xs) ss) es ≡ row_of (content n s xs ss es)
+  row_is : (ss : List Step) (es : List ℕ) → length ss ≤ 256 → n ≤ 64 → AllByRecursion (λ e. e < n) es → all_errors (all_steps (all_ways (blank n s) xs) ss) es ≡ row_of (content n s xs ss es)
   row_is ss es few small fit =
       let r1 = all_ways (blank n s) xs in
       let r2 = all_steps r1 ss in
@@ -68,7 +68,7 @@ module _ (n s : ℕ) (xs : List Action) (ok : All Sized xs) (once : Once (λ a. 
       let placed = steps_placed ss [] r1 k1.1 k1.2 (omega arith) in
       let states_are : r2.states ≡ n = k2.0.0 ∙ k1.0.0 in
       let errors_are : r2.errors ≡ replicate 64 false = k2.2 ∙ k1.3 in
-      let within : All (λ e. e < r2.states) es = subst (λ m. All (λ e. e < m) es) (sym states_are) fit in
+      let within : AllByRecursion (λ e. e < r2.states) es = subst (λ m. AllByRecursion (λ e. e < m) es) (sym states_are) fit in
       let wide : (length r2.errors ≡ 64) × (r2.states ≤ 64) = (ap length errors_are, subst (λ m. m ≤ 64) (sym states_are) small) in
       let ways_are : r1.ways ≡ tabled 32 (λ i. way_in (suc i) xs) =
       ext_get_or Absent r1.ways (tabled 32 (λ i. way_in (suc i) xs)) (k1.4 ∙ sym (length-tabled 32 (λ i. way_in (suc i) xs))) (λ i h.
@@ -89,7 +89,7 @@ module _ (n s : ℕ) (xs : List Action) (ok : All Sized xs) (once : Once (λ a. 
       let start_path = k3.0.1 ∙ k2.0.1 ∙ k1.0.1 in
       λ i. record { states = states_path i; start = start_path i; ways = ways_path i; count = count_path i; steps = steps_path i; errors = failing i }
 
-all_same : {X : Type 0} (f g : X → Bool) → ((x : X) → f x ≡ g x) → (xs : List X) → All (λ x. g x ≡ true) xs → All (λ x. f x ≡ true) xs
+all_same : {X : Type 0} (f g : X → Bool) → ((x : X) → f x ≡ g x) → (xs : List X) → AllByRecursion (λ x. g x ≡ true) xs → AllByRecursion (λ x. f x ≡ true) xs
 all_same f g e [] h = tt
 all_same f g e (x ∷ xs) h = (e x ∙ h.0, all_same f g e xs h.1)
 
@@ -110,7 +110,7 @@ follow_lays rs r p =
     let states_are : (all_steps (all_ways (blank n s) xs) ss).states ≡ n = k2.0.0 ∙ k1.0.0 in
     let c = errors_once es (all_steps (all_ways (blank n s) xs) ss) (ap length (k2.2 ∙ k1.3), subst (λ m. m ≤ 64) (sym states_are) t.4.1) told.6 in
     let few : length ss ≤ 256 = let f = b.3 in let z = k1.1 in omega arith in
-    let within : All (λ e. e < n) es = subst (λ m. All (λ e. e < m) es) states_are c.0 in (
+    let within : AllByRecursion (λ e. e < n) es = subst (λ m. AllByRecursion (λ e. e < m) es) states_are c.0 in (
       content n s xs ss es,
       record {
         some = t.4.0;
@@ -128,7 +128,7 @@ follow_lays rs r p =
       told.7 ∙ row_is n s xs a.0 a.1 ss es few t.4.1 within,
     )
 
-none_unfailed : (r : Row) → r.errors ≡ replicate 64 false → (es : List ℕ) → All (λ e. error_at r e ≡ false) es
+none_unfailed : (r : Row) → r.errors ≡ replicate 64 false → (es : List ℕ) → AllByRecursion (λ e. error_at r e ≡ false) es
 none_unfailed r h [] = tt
 none_unfailed r h (e ∷ es) = (ap (λ l. get_or l e false) h ∙ get_or_alike 64 e false, none_unfailed r h es)
 
@@ -152,7 +152,7 @@ lays_follow rs r l =
     let b : EachStepFits (all_ways (blank n s) xs) ss =
     once_steps ss (all_ways (blank n s) xs) (ap length k1.2, subst (λ m. m ≤ 256) (sym k1.1) (omega arith)) fit law.steps_once (untold_none (all_ways (blank n s) xs) zero_yet ss) steps_room in
     let e : EachErrorFits (all_steps (all_ways (blank n s) xs) ss) es =
-    once_errors es (all_steps (all_ways (blank n s) xs) ss) (subst (λ m. All (λ x. x < m) es) (sym states_are) law.errors_fit) law.errors_once (none_unfailed (all_steps (all_ways (blank n s) xs) ss) (k2.2 ∙ k1.3) es) in
+    once_errors es (all_steps (all_ways (blank n s) xs) ss) (subst (λ m. AllByRecursion (λ x. x < m) es) (sym states_are) law.errors_fit) law.errors_once (none_unfailed (all_steps (all_ways (blank n s) xs) ss) (k2.2 ∙ k1.3) es) in
     ap (follow (blank 1 0) Head 0) l.2
     ∙ follow_table n s xs ss es (blank 1 0) 0 law.some law.few law.begins a b e
     ∙ ap Ok (row_is n s xs law.actions_fit law.actions_once ss es law.steps_few law.few law.errors_fit ∙ sym l.3)

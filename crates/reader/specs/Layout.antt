@@ -6,7 +6,7 @@
 -- Begins front          some records with which the bytes of a table can begin
 -- Breaks bytes f        the fault f points at the first record that breaks the layout
 use Rattle.std.specs.Prelude.{◌≡◌, ℕ, zero, suc, ◌-◌, ◌<◌, ◌≤◌, Bool, true, false, cond, ◌&&◌, ◌||◌, ◌⊎◌, List, [], ◌∷◌, ◌++◌, length, replicate, ◌==◌, ◌≢◌, nat_lt}
-use Rattle.std.specs.List.{AllByRecursion as All}
+use Rattle.std.specs.List.{AllByRecursion}
 use Rattle.semantics.specs.declared.way.Way.{Way}
 use Rattle.semantics.specs.declared.way.Way.TheVariants.{Absent}
 use Rattle.semantics.specs.Way.{number}
@@ -33,7 +33,7 @@ pub record Content : Type 0 where
 -- no two elements agree in f
 abbrev pub Once : {X Y : Type 0} → (X → Y) → List X → Type 0
 Once f [] = Unit {0}
-Once f (x ∷ xs) = All (λ y. f y ≢ f x) xs × Once f xs
+Once f (x ∷ xs) = AllByRecursion (λ y. f y ≢ f x) xs × Once f xs
 
 -- the way that a list of actions gives a number
 abbrev pub way_in : ℕ → List Action → Way
@@ -48,12 +48,12 @@ pub record Lawful (c : Content) : Type 0 where
   pub some : 1 ≤ c.states
   pub few : c.states ≤ 64
   pub begins : c.start < c.states
-  pub actions_fit : All (λ a. (1 ≤ a.action) × (a.action ≤ 32) × (declared a.way ≡ true)) c.actions
+  pub actions_fit : AllByRecursion (λ a. (1 ≤ a.action) × (a.action ≤ 32) × (declared a.way ≡ true)) c.actions
   pub actions_once : Once (λ a. a.action) c.actions
-  pub steps_fit : All (λ s. fits c s ≡ true) c.steps
+  pub steps_fit : AllByRecursion (λ s. fits c s ≡ true) c.steps
   pub steps_once : Once (λ s. s) c.steps
   pub steps_few : length c.steps ≤ 256
-  pub errors_fit : All (λ s. s < c.states) c.errors
+  pub errors_fit : AllByRecursion (λ s. s < c.states) c.errors
   pub errors_once : Once (λ s. s) c.errors
 
 -- one record of a kind for each element

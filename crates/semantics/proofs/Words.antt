@@ -1,6 +1,6 @@
 -- Words: letters, prefixes and pruning.
 use Rattle.std.proofs.Common.{◌≡◌, ℕ, Bool, true, false, ◌⊎◌, List, [], ◌∷◌, ◌++◌, sym, refl, ap, ◌∙◌, subst, inl, inr, append_assoc, append-nil, arith}
-use Rattle.std.specs.List.{AllByRecursion as All}
+use Rattle.std.specs.List.{AllByRecursion}
 use Rattle.std.proofs.ByRecursion.{All-weaker}
 use Rattle.semantics.specs.declared.way.Way.{Way}
 use Rattle.semantics.specs.declared.way.Way.TheVariants.{Absent, Input, Output}
@@ -8,12 +8,12 @@ use Rattle.semantics.specs.Way.{is_output}
 use Rattle.semantics.specs.System.{System}
 use Rattle.semantics.specs.Trace.{Word, Outputs, Prefix, put, prune}
 
-pub all_front : {X : Type 0} (P : X → Type 0) (xs ys : List X) → All P (xs ++ ys) → All P xs
+pub all_front : {X : Type 0} (P : X → Type 0) (xs ys : List X) → AllByRecursion P (xs ++ ys) → AllByRecursion P xs
 all_front P [] ys h = tt
 all_front P (x ∷ xs) ys h = (h.0, all_front P xs ys h.1)
 
-pub all_prefix : (P : ℕ → Type 0) (u w : List ℕ) → Prefix u w → All P w → All P u
-all_prefix P u w (v, q) h = all_front P u v (subst (All P) (sym q) h)
+pub all_prefix : (P : ℕ → Type 0) (u w : List ℕ) → Prefix u w → AllByRecursion P w → AllByRecursion P u
+all_prefix P u w (v, q) h = all_front P u v (subst (AllByRecursion P) (sym q) h)
 
 -- systems with the same ways have the same words
 pub word_like : (a b : System) → ((x : ℕ) → a.way x ≡ b.way x) → (w : List ℕ) → Word a w → Word b w

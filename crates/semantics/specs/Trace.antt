@@ -13,7 +13,7 @@
 -- Flooded e w        w is a flooded trace of e: a trace or an error trace
 -- Illegal e p        e can get from p into an error by itself, by outputs and internal steps
 use Rattle.std.specs.Prelude.{◌≡◌, ℕ, Bool, true, false, ◌≢◌, ◌⊎◌, List, [], ◌∷◌, ◌++◌}
-use Rattle.std.specs.List.{AllByRecursion as All}
+use Rattle.std.specs.List.{AllByRecursion}
 use Rattle.semantics.specs.declared.way.Way.TheVariants.{Absent, Input, Output}
 use Rattle.semantics.specs.Way.{is_output}
 use Rattle.semantics.specs.System.{System, accepts}
@@ -28,10 +28,10 @@ abbrev pub After : System → List ℕ → ℕ → Type 0
 After e w q = Runs e e.start w q
 
 abbrev pub Word : System → List ℕ → Type 0
-Word e w = All (λ x. e.way x ≢ Absent) w
+Word e w = AllByRecursion (λ x. e.way x ≢ Absent) w
 
 abbrev pub Outputs : System → List ℕ → Type 0
-Outputs e w = All (λ x. e.way x ≡ Output) w
+Outputs e w = AllByRecursion (λ x. e.way x ≡ Output) w
 
 abbrev pub Prefix : List ℕ → List ℕ → Type 0
 Prefix u w = (v : List ℕ) × (u ++ v ≡ w)
