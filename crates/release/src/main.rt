@@ -6,14 +6,24 @@ mod help;
 mod tables;
 
 use std::env::Args;
+use std::process::ExitCode;
 use std::{env, io};
 
-fn main(rt: HostRuntime) -> io::Result<()> {
-    let mut words = env::args(&rt)?;
+// The status is all that tells of a failure: what there is to say was printed before.
+fn main(rt: HostRuntime) -> ExitCode {
+    match answer(&rt) {
+        Ok(()) => ExitCode::SUCCESS,
+        Err(_) => ExitCode::FAILURE,
+    }
+}
+
+// Runs the command that the program was called with.
+fn answer(rt: &HostRuntime) -> io::Result<()> {
+    let mut words = env::args(rt)?;
     let _program = words.next();
     match words.next() {
-        Some(command) => run(&rt, command.as_str(), words),
-        None => help::help(&rt),
+        Some(command) => run(rt, command.as_str(), words),
+        None => help::help(rt),
     }
 }
 
