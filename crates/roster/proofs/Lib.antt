@@ -1,3 +1,4 @@
 pub mod Law
 pub mod Bits
 pub mod Tables
+pub mod Charts

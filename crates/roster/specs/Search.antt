@@ -1,7 +1,7 @@
 -- Search among the numbers below a bound, number by number.
 use Rattle.std.specs.Prelude.{◌≡◌, ℕ, zero, suc, ◌+◌, ◌<◌, ◌≤◌, Bool, true, false, cond, ◌||◌, is_some, Some, None, Option, refl}
-use Rattle.std.proofs.Common.{sym, ap, subst, ◌∙◌, inl, inr, add-one, arith}
-use Rattle.std.proofs.lemmas.Bool.{or_from, or_parts, cases_eq, cases_lt, cond-true, cond-false, both_ways}
+use Rattle.std.proofs.Common.{sym, ap, ◌∙◌, inl, inr, add-one, arith}
+use Rattle.std.proofs.lemmas.Bool.{or_from, or_parts, cases_eq, cond-true, cond-false, both_ways}
 use Rattle.semantics.specs.System.{System, any, has_step, accepts}
 use Rattle.semantics.proofs.Search.{false_if, same_test, any_view, any_make}
 use Rattle.roster.specs.Layer.{lowest}
