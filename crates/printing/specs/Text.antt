@@ -1,5 +1,5 @@
--- each n f            f 0, f 1 and so on up to f (n - 1), one behind the other
--- when b xs           xs if b holds, else nothing
+-- each n f             f 0, f 1 and so on up to f (n - 1), one behind the other
+-- when b xs            xs if b holds, else nothing
 -- head_line n s        the line of n states and the start s
 -- way_line w a         the line of action a with the way w; an absent action has none
 -- step_line f a t      the line of a step from f under a to t
@@ -13,7 +13,7 @@
 -- error_lines r        the lines of the errors of r, ascending
 -- row_text r           all lines of r
 -- refused_text n p     the line of a refusal: its number, and the offset that it points at
--- shown o             the text of a row that was opened, or of the fault that refused it
+-- shown o              the text of a row that was opened, or of the fault that refused it
 -- table_text bytes     the text of the table that some bytes lay out, or of their refusal
 use Rattle.std.specs.Prelude.{ℕ, zero, suc, Bool, cond, List, [], ◌++◌, Ok, Err, codes, decimal, Result}
 use Rattle.semantics.specs.declared.way.Way.{Way}

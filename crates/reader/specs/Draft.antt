@@ -1,5 +1,5 @@
 -- headed, acted, stepped, failed, ended    the row after a head, an action, a step, an error or an end, or its fault
--- with_way, with_step, with_error             the row with one thing more
+-- with_way, with_step, with_error          the row with one thing more
 -- due stage kind                           may a record of this kind stand at this stage?
 -- entered row stage at kind body           the row and the stage after a record that stands at an offset, or its fault
 -- follow row stage at rs                   the table that the records rs, from an offset on, make of a row, or the first fault

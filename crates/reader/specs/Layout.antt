@@ -1,7 +1,7 @@
 -- Content               what the records of a table tell, in the order of telling
 -- Lawful c              the limits and facts that every content keeps
--- records_of c           the records that tell the content c: a head, actions, steps, errors and an end
--- row_of c               the row that holds the content c
+-- records_of c          the records that tell the content c: a head, actions, steps, errors and an end
+-- row_of c              the row that holds the content c
 -- LaidOut bytes r       the bytes are the records of a lawful content, and r is its row
 -- Begins front          some records with which the bytes of a table can begin
 -- Breaks bytes f        the fault f points at the first record that breaks the layout

@@ -1,7 +1,7 @@
 -- pair_of at kind body    the pair of the record that stands at an offset, or its fault
--- gather ps at rs        the pairs ps, and those of the records rs from an offset on, or the first fault
+-- gather ps at rs         the pairs ps, and those of the records rs from an offset on, or the first fault
 -- pairs_in bytes          the pairs that some bytes list, or their first fault
--- outcome r              what a reader answered: the things listed, or the fault
+-- outcome r               what a reader answered: the things listed, or the fault
 use Rattle.std.specs.Prelude.{ℕ, ◌+◌, cond, List, [], ◌∷◌, ◌++◌, length, take, drop, Ok, Err, Result, ◌==◌, nat_lt}
 use Rattle.reader.specs.declared.fault.Fault.{Fault}
 use Rattle.reader.specs.declared.fault.Fault.TheVariants.{Cut, Kind, Length}

@@ -3,7 +3,7 @@
 -- records bytes     some bytes cut into records
 -- written k body    the bytes of a record of kind k
 -- ReadBack          records that are written are read back
--- size_of body       how many bytes a record with this body takes
+-- size_of body      how many bytes a record with this body takes
 -- followed xs rs    the records xs, each as its kind and its body, and then the records rs
 -- sizes xs          how many bytes the records xs take
 use Rattle.std.specs.Prelude.{◌≡◌, ℕ, zero, suc, ◌+◌, ◌*◌, ◌/◌, ◌%◌, ◌<◌, cond, List, [], ◌∷◌, ◌++◌, length, take, drop, Some, None, Option, nat_le}

@@ -1,6 +1,6 @@
 -- blank n s       a row of n states with start s and nothing else
--- way_of r a       the way of action a in the row r
--- error_at r s     is s told as an error?
+-- way_of r a      the way of action a in the row r
+-- error_at r s    is s told as an error?
 -- listed r        the steps that r tells, in their order
 -- told s xs       is the step s among xs?
 -- declared w      is w the way of a declared action?

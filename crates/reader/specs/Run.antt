@@ -2,7 +2,7 @@
 -- move_in bytes     the move in front of some bytes, and the bytes behind it, or none
 -- moves_in bytes    the moves that some bytes tell, three bytes for each
 -- run_in bytes      the run that some bytes tell, as its ending and its moves, or their first fault
--- outcome r        what a reader answered: the run, or the fault
+-- outcome r         what a reader answered: the run, or the fault
 use Rattle.std.specs.Prelude.{ℕ, ◌+◌, ◌/◌, ◌%◌, cond, ◌&&◌, List, [], ◌∷◌, length, Some, None, Ok, Err, Option, Result, ◌==◌, nat_le}
 use Rattle.reader.specs.declared.fault.Fault.TheVariants.{Cut, Kind, Length, Value, Trailing}
 use Rattle.reader.specs.declared.evidence.EvidenceFault.{EvidenceFault}

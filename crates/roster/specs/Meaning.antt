@@ -1,8 +1,8 @@
 -- Meaning          what a roster says: its size, the system that stands at each number, and what that is the coupling of
 -- nothing          the system that answers for an absent station: no state, no action, no error, no step
 -- filled o         the system that stands, or else `nothing`
--- system_at m s     the system that answers for the station s
--- is_there m s      is the station s there?
+-- system_at m s    the system that answers for the station s
+-- is_there m s     is the station s there?
 -- Lawful m         the law that the meaning of every roster keeps
 -- Coupled m s i k  the station s is the coupling of i and k, which are there and composable
 use Rattle.std.specs.Prelude.{◌≡◌, ℕ, ◌<◌, ◌≤◌, Bool, true, false, is_some, Some, None, Option}

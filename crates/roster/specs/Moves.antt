@@ -1,4 +1,4 @@
--- in_chart p x q       are p and q numbers of states of a table, and is x 0 or the number of an action?
+-- in_chart p x q      are p and q numbers of states of a table, and is x 0 or the number of an action?
 -- holds sets p x q    is q in the set that a chart keeps for the state p and the action x?
 -- Charted r sets      the sets of a chart hold exactly the steps that the row r tells
 use Rattle.std.specs.Prelude.{◌≡◌, ℕ, ◌+◌, ◌*◌, Bool, ◌&&◌, List, nat_lt, slice_index}

@@ -1,5 +1,5 @@
 -- system_of r        the system that the row r tells
--- keeps r           does the row r keep the limits and facts of a table?
+-- keeps r            does the row r keep the limits and facts of a table?
 -- station_of r       the station of the row r: its system if it keeps them, else none
 -- station_at rs s    the station of the s-th row of rs, counted from 0
 -- table_meaning rs   what the roster of the rows rs says: their first 16 are its stations

@@ -2,7 +2,7 @@
 -- only p               the set of p alone
 -- meets n X Y          have X and Y a number below n in common?
 -- grown R n X          X, with where one R-step leads from the numbers of X below n
--- grown_by R n X k      X grown k times
+-- grown_by R n X k     X grown k times
 -- closure R n X        X, with where any number of R-steps leads
 -- moved e X a          where one step under a leads from X
 -- reach e X            X, with where internal steps lead from X
@@ -13,10 +13,10 @@
 -- illegal e p          is the state p illegal: do local steps lead from p to an error?
 -- fails e X            is there an illegal state in X?
 -- misses e X a         is there a state in X that does not accept a?
--- is_word e w           is every letter of w an input or an output?
--- is_trace e w          is w a trace?
+-- is_word e w          is every letter of w an input or an output?
+-- is_trace e w         is w a trace?
 -- errs e X w           is there, on the way along w from X, an illegal state or an input that is missed?
--- is_error_trace e w     is w an error trace?
+-- is_error_trace e w   is w an error trace?
 use Rattle.std.specs.Prelude.{ℕ, zero, suc, Bool, true, not, ◌&&◌, ◌||◌, List, [], ◌∷◌, ◌==◌}
 use Rattle.semantics.specs.Way.{is_input, is_output}
 use Rattle.semantics.specs.System.{System, any, accepts}

@@ -1,13 +1,13 @@
 -- Worked examples, against careless readings of the definitions.
--- step_in steps p x q           is the step from p under x to q in the list?
--- state_in states p             is the state p in the list?
--- one_of_each i o x              the way of x where i is the only input and o the only output
--- small n i o steps errors     a system with n states and start 0, the input i and the output o
--- late          takes its input only after an internal step
--- doomed        takes an input, and then runs into an error by an output of its own
--- replying      takes an input and answers it by an output, again and again
--- silent        takes an input and does nothing more
--- relay         takes what `replying` puts out, and passes it on under another number
+-- step_in steps p x q       is the step from p under x to q in the list?
+-- state_in states p         is the state p in the list?
+-- one_of_each i o x         the way of x where i is the only input and o the only output
+-- small n i o steps errors  a system with n states and start 0, the input i and the output o
+-- late                      takes its input only after an internal step
+-- doomed                    takes an input, and then runs into an error by an output of its own
+-- replying                  takes an input and answers it by an output, again and again
+-- silent                    takes an input and does nothing more
+-- relay                     takes what `replying` puts out, and passes it on under another number
 use Rattle.std.specs.Prelude.{◌≡◌, ℕ, max, Bool, true, false, cond, ◌&&◌, ◌||◌, List, [], ◌∷◌, ◌==◌}
 use Rattle.semantics.specs.declared.way.Way.{Way}
 use Rattle.semantics.specs.declared.way.Way.TheVariants.{Absent, Input, Output}

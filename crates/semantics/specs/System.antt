@@ -2,7 +2,7 @@
 -- WellFormed e     e speaks of no other states and actions than its own
 -- Same c d         c and d have the same states, start, ways, errors and steps
 -- any f n          does some number below n pass the test f?
--- has_step e p x    has the state p a step under the action x?
+-- has_step e p x   has the state p a step under the action x?
 -- accepts e p x    does the state p take the input x, by a step of its own?
 use Rattle.std.specs.Prelude.{◌≡◌, ℕ, zero, suc, ◌<◌, ◌≤◌, Bool, true, false, ◌||◌, ◌≢◌, ◌⊎◌}
 use Rattle.semantics.specs.declared.way.Way.{Way}

@@ -1,4 +1,4 @@
--- number w      the number that stands for the way w: 0 absent, 1 input, 2 output
+-- number w       the number that stands for the way w: 0 absent, 1 input, 2 output
 -- is_input w     does w say that the action is an input?
 -- is_output w    does w say that the action is an output?
 use Rattle.std.specs.Prelude.{ℕ, Bool, true, false}
