@@ -9,7 +9,7 @@ use std::env::Args;
 use std::process::ExitCode;
 use std::{env, io};
 
-// The status is all that tells of a failure: what there is to say was printed before.
+// A failure is told by the status 1 and nothing more: what is refused was printed before.
 fn main(rt: HostRuntime) -> ExitCode {
     match answer(&rt) {
         Ok(()) => ExitCode::SUCCESS,
