@@ -99,7 +99,7 @@ fresh-blank n s (a ∷ xs) = (ap declared (way-blank n s a.action), fresh-blank 
 
 -- Steps -----------------------------------------------------------------------------------------------------------
 
-same_step_lem : (s t : Step) → same_step s t ≡ true → s ≡ t
+pub same_step_lem : (s t : Step) → same_step s t ≡ true → s ≡ t
 same_step_lem s t e =
     let p = and_parts (eqb s.from t.from) (eqb s.action t.action && eqb s.to t.to) e in
     let q = and_parts (eqb s.action t.action) (eqb s.to t.to) p.1 in

@@ -11,6 +11,7 @@ use Rattle.semantics.proofs.Ways.{input≢absent, output≢absent}
 use Rattle.reader.specs.declared.row.Row.{Row}
 use Rattle.reader.specs.declared.row.Step.{Step}
 use Rattle.reader.specs.Row.{unused, way_of, error_at, listed, same_step, told, declared, usable, fitting, Facts}
+use Rattle.reader.proofs.Contents.{same_step_lem}
 use Rattle.roster.specs.Meaning.{Lawful, filled}
 use Rattle.roster.specs.Rows.{system_of, stray_step, stray_error, limited, keeps, station_of, station_at, table_meaning}
 
@@ -74,15 +75,6 @@ told_fits r s (t ∷ ts) h e =
       | inl same ↦ subst (λ u. fitting r u ≡ true) (same_step_lem t s same) (h 0 (omega arith))
       | inr more ↦ told_fits r s ts (λ k l. h (suc k) (omega arith)) more
     ]
-  where
-    same_step_lem : (t s : Step) → same_step t s ≡ true → t ≡ s
-    same_step_lem t s e =
-        let (f, e') = and_parts (eqb t.from s.from) (eqb t.action s.action && eqb t.to s.to) e in
-        let (a, g) = and_parts (eqb t.action s.action) (eqb t.to s.to) e' in
-        let f' = eqb-true t.from s.from f in
-        let a' = eqb-true t.action s.action a in
-        let g' = eqb-true t.to s.to g in
-        λ i. record { from = f' i; action = a' i; to = g' i }
 
 listed_fits : (r : Row) → Facts r → (s : Step) → told s (listed r) ≡ true → fitting r s ≡ true
 listed_fits r facts s =
