@@ -1,6 +1,6 @@
 // The content of a table laid down plainly, with no promise about it.
 ghost use Rattle.std.specs.Prelude.{◌≡◌};
-ghost use Rattle.reader.specs.Row.{blank as blank_of, way_of, error_at, same_step, usable, fitting, told, listed as listed_of};
+ghost use Rattle.reader.specs.Row.{blank as blank_of, way_of, error_at, usable, fitting, told, listed as listed_of};
 
 use semantics::Way;
 
@@ -10,15 +10,6 @@ pub struct Step {
     pub from: u8,
     pub action: u8,
     pub to: u8,
-}
-
-impl Step {
-    // Whether both are one step.
-    fn same(&self, other: Step) -> bool
-        ensures { result ≡ same_step self.now other }
-    {
-        self.from == other.from && self.action == other.action && self.to == other.to
-    }
 }
 
 // A row: how many states there are, the start, the way of the actions 1 to 32, the first `count` places of
@@ -98,18 +89,6 @@ impl Row {
     pub fn has_step(&self, step: Step) -> bool
         ensures { result ≡ told step (listed_of self.now) }
     {
-        is_among(step, self.listed())
+        self.listed().contains(&step)
     }
-}
-
-// Whether a step stands among others.
-fn is_among(step: Step, steps: &[Step]) -> bool
-    ensures { result ≡ told step steps.now }
-{
-    for other in steps {
-        if other.same(step) {
-            return true;
-        }
-    }
-    false
 }

@@ -6,7 +6,7 @@ ghost use Rattle.reader.specs.Table.{opened, opening};
 
 use crate::draft::Draft;
 use crate::fault::Fault;
-use crate::record::split;
+use crate::placed::Placed;
 use crate::row::Row;
 
 // A row that keeps the limits and facts of a table.
@@ -59,11 +59,9 @@ fn read(bytes: &[u8]) -> Result<Row, Fault>
     let mut rest = bytes;
     let mut at: u32 = 0;
     while !draft.is_closed() {
-        let Some((record, behind)) = split(rest) else {
-            return Err(Fault::Cut(at));
-        };
-        draft.take(record, at)?;
-        at += 4 + record.body.len() as u32;
+        let (placed, behind) = Placed::first(rest, at)?;
+        draft.take(&placed)?;
+        at += 4 + placed.record.body.len() as u32;
         rest = behind;
     }
     if !rest.is_empty() {

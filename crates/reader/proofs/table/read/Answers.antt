@@ -1,8 +1,8 @@
-use Rattle.std.proofs.Common.{◌≡◌, ◌+◌, length, sym, ap, ◌∙◌, subst, arith}
+use Rattle.std.proofs.Common.{◌≡◌, ◌+◌, length, Ok, sym, ap, ◌∙◌, subst, arith}
 use Rattle.std.proofs.lemmas.Result.{err_from_is_err_and}
 use Rattle.std.proofs.lemmas.Bool.{eqb-true, eqb-false}
 use Rattle.reader.specs.Record.{records, size_of}
-use Rattle.reader.specs.Draft.{follow}
+use Rattle.reader.specs.Draft.{entered, follow}
 use Rattle.reader.specs.Table.{opened}
 use Rattle.reader.proofs.Records.{records-none, records-next}
 use Rattle.reader.proofs.Entries.{entry}
@@ -20,26 +20,33 @@ loop-rest-init c =
       subst Keeps (sym r) (keeps_blank 1 0 (omega arith) (omega arith) (omega arith)),
     )
 
-pub returns-in_default : goal.returns-in_default
-returns-in_default c =
+pub returns-in_err-placed : goal.returns-in_err-placed
+returns-in_err-placed c =
+    let p = err_from_is_err_and c.from_residual.result c.from_residual.ensures.1 in
+    let f = c.in_err-placed.ensures.stands in
     let going = sym c.is_closed.ensures ∙ c.loop-rest-test.true in
-    sym (follow_stops c.loop-rest.draft.row c.loop-rest.draft.stage c.loop-rest.at c.loop-rest.rest.now going (sym c.in_default.ensures.front)) ∙ c.loop-rest.invariant.0
+    rw (p.1, p.2, f.1) (sym (follow_stops c.loop-rest.draft.row c.loop-rest.draft.stage c.loop-rest.at c.loop-rest.rest.now going f.0) ∙ c.loop-rest.invariant.0)
 
 pub returns-in_err-take : goal.returns-in_err-take
 returns-in_err-take c =
-    let p = err_from_is_err_and c.from_residual.result c.from_residual.ensures.1 in
+    let p = err_from_is_err_and c.from_residual-in_err-take.result c.from_residual-in_err-take.ensures.1 in
+    let t = c.in_ok-placed.ensures in
     let going = sym c.is_closed.ensures ∙ c.loop-rest-test.true in
-    let here = records-next c.loop-rest.rest.now _ (sym c.in-Some.ensures.front) in
+    let here = records-next c.loop-rest.rest.now _ t.stands in
     rw (p.1, p.2) (
-    sym (follow_refused c.loop-rest.draft.row c.loop-rest.draft.stage c.loop-rest.at c.in-Some.record.kind c.in-Some.record.body.now (records c.in-Some.behind.now) _ going (sym c.in_err-take.ensures))
+    sym (follow_refused c.loop-rest.draft.row c.loop-rest.draft.stage c.loop-rest.at _ _ (records c.in_ok-placed.behind.now) _ going (sym (rw (← t.place) c.in_err-take.ensures)))
     ∙ sym (ap (follow c.loop-rest.draft.row c.loop-rest.draft.stage c.loop-rest.at) here) ∙ c.loop-rest.invariant.0
     )
 
--- what the record that is taken in adds
-adds : (c : goal.In_ok-take) → (c.loop-rest.at + size_of c.in-Some.record.body.now ≡ sized c.take.new.self.row c.take.new.self.stage) × Keeps c.take.new.self.row
+-- the record that is taken in
+taken_in : (c : goal.In_ok-take) → entered c.loop-rest.draft.row c.loop-rest.draft.stage c.loop-rest.at c.in_ok-placed.placed.record.kind c.in_ok-placed.placed.record.body.now ≡ Ok (c.take.new.self.row, c.take.new.self.stage)
+taken_in c = sym (rw (← c.in_ok-placed.ensures.place) c.in_ok-take.ensures)
+
+-- what it adds
+adds : (c : goal.In_ok-take) → (c.loop-rest.at + size_of c.in_ok-placed.placed.record.body.now ≡ sized c.take.new.self.row c.take.new.self.stage) × Keeps c.take.new.self.row
 adds c =
-    let e = entry c.loop-rest.draft.row c.loop-rest.draft.stage c.loop-rest.at c.in-Some.record.kind c.in-Some.record.body.now (c.take.new.self.row, c.take.new.self.stage) (sym c.in_ok-take.ensures) in
-    (ap (λ n. n + size_of c.in-Some.record.body.now) c.loop-rest.invariant.1 ∙ entry_sized e c.loop-rest.invariant.2, entry_keeps e c.loop-rest.invariant.2)
+    let e = entry c.loop-rest.draft.row c.loop-rest.draft.stage c.loop-rest.at c.in_ok-placed.placed.record.kind c.in_ok-placed.placed.record.body.now (c.take.new.self.row, c.take.new.self.stage) (taken_in c) in
+    (ap (λ n. n + size_of c.in_ok-placed.placed.record.body.now) c.loop-rest.invariant.1 ∙ entry_sized e c.loop-rest.invariant.2, entry_keeps e c.loop-rest.invariant.2)
 
 pub overflow_add-at-in-loop-rest : goal.overflow_add-at-in-loop-rest
 overflow_add-at-in-loop-rest c =
@@ -50,9 +57,9 @@ overflow_add-at-in-loop-rest c =
 pub loop-rest-preserved : goal.loop-rest-preserved
 loop-rest-preserved c =
     let going = sym c.is_closed.ensures ∙ c.loop-rest-test.true in
-    let here = records-next c.loop-rest.rest.now _ (sym c.in-Some.ensures.front) in
+    let here = records-next c.loop-rest.rest.now _ (c.in_ok-placed.ensures.stands) in
     let more = adds c in (
-      sym (follow_more c.loop-rest.draft.row c.loop-rest.draft.stage c.loop-rest.at c.in-Some.record.kind c.in-Some.record.body.now (records c.in-Some.behind.now) (c.take.new.self.row, c.take.new.self.stage) going (sym c.in_ok-take.ensures))
+      sym (follow_more c.loop-rest.draft.row c.loop-rest.draft.stage c.loop-rest.at c.in_ok-placed.placed.record.kind c.in_ok-placed.placed.record.body.now (records c.in_ok-placed.behind.now) (c.take.new.self.row, c.take.new.self.stage) going (taken_in c))
           ∙ sym (ap (follow c.loop-rest.draft.row c.loop-rest.draft.stage c.loop-rest.at) here) ∙ c.loop-rest.invariant.0,
       more.0,
       more.1,
