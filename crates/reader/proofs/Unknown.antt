@@ -1,18 +1,16 @@
 -- Numbers that are those of no kind and of no way.
-use Rattle.std.proofs.Common.{◌≡◌, ℕ, ◌≢◌, ◌&&◌, leb, false, List, Err, ap, ◌∙◌, arith}
-use Rattle.std.proofs.lemmas.Bool.{cond-false, ne_eqb, and_parts}
+use Rattle.std.proofs.Common.{◌≡◌, ℕ, ◌≢◌, false, List, Err, arith}
 use Rattle.semantics.specs.declared.way.Way as ways
 use Rattle.semantics.specs.declared.way.Way.TheVariants.{Input, Output}
 use Rattle.semantics.specs.Way.{number as way_number}
 use Rattle.reader.specs.declared.kind.Kind as kinds
 use Rattle.reader.specs.declared.kind.Kind.TheVariants.{Head, Action, Step, Error, End, NarrowPair, WidePair, Run}
 use Rattle.reader.specs.declared.stage.Stage.{Stage}
-use Rattle.reader.specs.declared.stage.Stage.TheVariants as at
 use Rattle.reader.specs.declared.fault.Fault.TheVariants.{Kind}
 use Rattle.reader.specs.Kind.{number}
 use Rattle.reader.specs.Row.{declared}
 use Rattle.reader.specs.Draft.{due, way_from}
-use Rattle.reader.specs.Pairs.{pair_sized, pair_of}
+use Rattle.reader.specs.Pairs.{pair_of}
 
 -- records of no kind
 module _ (n : ℕ) (none : (k : kinds.Kind) → number k ≢ n) where

@@ -72,10 +72,7 @@ impl Draft {
         let Ok(way) = Way::try_from(way) else {
             return Err(Fault::Value(placed.at));
         };
-        if way == Way::Absent {
-            return Err(Fault::Value(placed.at));
-        }
-        if action == 0 || action > 32 {
+        if way == Way::Absent || action == 0 || action > 32 {
             return Err(Fault::Value(placed.at));
         }
         if self.row.way(action) != Way::Absent {

@@ -13,6 +13,7 @@ mod row;
 mod run;
 mod stage;
 mod table;
+mod unread;
 
 pub use evidence::EvidenceFault;
 pub use fault::Fault;

@@ -9,6 +9,7 @@ use crate::fault::Fault;
 use crate::kind::Kind;
 use crate::listing::Listing;
 use crate::placed::Placed;
+use crate::unread::Unread;
 
 // A pair: a state of the new station, and a set of states of the old one, where bit q stands for state q.
 #[derive(Clone, Copy, PartialEq, Eq, Debug)]
@@ -25,17 +26,14 @@ pub fn read_pairs(bytes: &[u8]) -> Result<Listing<Pair>, EvidenceFault>
     ensures reads { (ps : List Pair) → PairsLaid bytes.now ps → result ≡ Ok ps }
 {
     let mut pairs = Listing::new(Pair { state: 0, set: 0 });
-    let mut rest = bytes;
-    let mut at: u32 = 0;
-    while !rest.is_empty() {
+    let mut unread = Unread::of(bytes);
+    while !unread.rest.is_empty() {
         if pairs.len() >= 4096 {
             return Err(EvidenceFault::Pairs);
         }
-        let (placed, behind) = Placed::first(rest, at)?;
+        let placed = unread.read_record()?;
         let pair = read_pair(&placed)?;
         pairs.push(pair).unwrap();
-        at += 4 + placed.record.body.len() as u32;
-        rest = behind;
     }
     Ok(pairs)
 }

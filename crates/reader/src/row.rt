@@ -47,20 +47,17 @@ impl Row {
     pub fn way(&self, action: u8) -> Way
         ensures { result ≡ way_of self.now action }
     {
-        if action == 0 || action > 32 {
-            return Way::Absent;
+        match action {
+            1..=32 => self.ways[usize::from(action) - 1],
+            _ => Way::Absent,
         }
-        self.ways[usize::from(action) - 1]
     }
 
     // Whether a state is an error.
     pub fn is_error(&self, state: u8) -> bool
         ensures { result ≡ error_at self.now state }
     {
-        if state >= 64 {
-            return false;
-        }
-        self.errors[usize::from(state)]
+        self.errors.get(usize::from(state)) == Some(&true)
     }
 
     // Whether an action may stand in a step: 0, or one that has a way.
@@ -81,8 +78,7 @@ impl Row {
     pub fn listed(&self) -> &[Step]
         ensures { result.now ≡ listed_of self.now }
     {
-        let count = self.count.min(256);
-        &self.steps[0..count]
+        &self.steps[..self.count.min(256)]
     }
 
     // Whether a step is told.

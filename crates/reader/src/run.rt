@@ -8,7 +8,7 @@ use crate::evidence::EvidenceFault;
 use crate::fault::Fault;
 use crate::kind::Kind;
 use crate::listing::Listing;
-use crate::placed::Placed;
+use crate::unread::Unread;
 
 // A move: an action, 0 for an internal one, and the state that it leads to.
 #[derive(Clone, Copy, PartialEq, Eq, Debug)]
@@ -42,11 +42,12 @@ pub fn read_run(bytes: &[u8]) -> Result<Run, EvidenceFault>
     ensures told { MatchResult result (λ run. RunLaid bytes.now run.ending run.moves) (λ f. RunBreaks bytes.now f) }
     ensures reads { (e : Ending) (ms : List Move) → RunLaid bytes.now e ms → outcome result ≡ Ok (e, ms) }
 {
-    let (placed, behind) = Placed::first(bytes, 0)?;
+    let mut unread = Unread::of(bytes);
+    let placed = unread.read_record()?;
     let Kind::Run = placed.kind()? else {
         return Err(Fault::Kind(0).into());
     };
-    read_body(placed.record.body, behind)
+    read_body(placed.record.body, unread.rest)
 }
 
 // The run of a record's body, behind which some bytes follow.

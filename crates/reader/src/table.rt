@@ -6,8 +6,8 @@ ghost use Rattle.reader.specs.Table.{opened, opening};
 
 use crate::draft::Draft;
 use crate::fault::Fault;
-use crate::placed::Placed;
 use crate::row::Row;
+use crate::unread::Unread;
 
 // A row that keeps the limits and facts of a table.
 #[derive(Clone, Copy)]
@@ -56,16 +56,13 @@ fn read(bytes: &[u8]) -> Result<Row, Fault>
     ensures { result ≡ opened bytes.now }
 {
     let mut draft = Draft::new();
-    let mut rest = bytes;
-    let mut at: u32 = 0;
+    let mut unread = Unread::of(bytes);
     while !draft.is_closed() {
-        let (placed, behind) = Placed::first(rest, at)?;
+        let placed = unread.read_record()?;
         draft.take(&placed)?;
-        at += 4 + placed.record.body.len() as u32;
-        rest = behind;
     }
-    if !rest.is_empty() {
-        return Err(Fault::Trailing(at));
+    if !unread.rest.is_empty() {
+        return Err(Fault::Trailing(unread.at));
     }
     Ok(draft.row)
 }

@@ -1,4 +1,4 @@
-use Rattle.std.proofs.Common.{◌≡◌, ◌+◌, ◌*◌, arith, rules}
+use Rattle.std.proofs.Common.{arith, rules}
 use Rattle.reader.proofs.Numbers.{little_small, little_front}
 use Rattle.reader.proofs.pair.+little.Goals as goal
 

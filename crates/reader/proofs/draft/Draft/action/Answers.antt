@@ -1,4 +1,4 @@
-use Rattle.std.proofs.Common.{rules, arith}
+use Rattle.std.proofs.Common.{arith}
 use Rattle.reader.proofs.Unknown.{no_way}
 use Rattle.reader.proofs.draft.Draft.action.Goals as goal
 

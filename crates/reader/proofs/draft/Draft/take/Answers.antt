@@ -1,4 +1,4 @@
-use Rattle.std.proofs.Common.{sym, Err, ap, ◌∙◌}
+use Rattle.std.proofs.Common.{sym}
 use Rattle.std.proofs.lemmas.Bool.{cond-false}
 use Rattle.std.proofs.lemmas.Result.{err_from_is_err_and}
 use Rattle.reader.proofs.Unknown.{undue}
