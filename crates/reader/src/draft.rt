@@ -37,7 +37,7 @@ impl Draft {
         self.stage == Stage::Closed
     }
 
-    // Takes in a record.
+    // Takes in a record. A match shows all that may stand where, at a glance; a table of functions would not.
     pub fn take(&mut self, placed: &Placed<'_>) -> Result<(), Fault>
         ensures { reached result self.new.row self.new.stage ≡ entered self.old.row self.old.stage placed.now.at placed.now.«record».kind placed.now.«record».body.now }
     {

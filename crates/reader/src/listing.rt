@@ -4,7 +4,7 @@ ghost use Rattle.std.specs.Prelude.{◌≡◌, ◌≤◌, [], ◌∷◌, ◌++�
 use std::marker::Model;
 
 // The first `count` places hold what was listed, in its order. A contract sees the things that are listed. The places
-// are fixed, for judging must not fail for want of memory.
+// are an array, since reading takes no memory from the heap, and so never fails for want of it.
 #[derive(Drop)]
 pub struct Listing<T> {
     places: [T; 4096],

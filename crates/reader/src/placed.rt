@@ -1,5 +1,5 @@
 // Records where they stand.
-ghost use Rattle.std.specs.Prelude.{◌≡◌};
+ghost use Rattle.std.specs.Prelude.{◌≡◌, ◌<◌, length};
 ghost use Rattle.reader.specs.Placed.{sized, Kinded};
 
 use crate::fault::Fault;
@@ -11,6 +11,7 @@ use crate::record::Record;
 pub struct Placed<'a> {
     pub record: Record<'a>,
     pub at: u32,
+    ghost short: { length «record».body.now < 65536 },
 }
 
 impl Placed<'_> {

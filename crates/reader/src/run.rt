@@ -83,7 +83,8 @@ fn read_parts(ending: u8, input: u8, moves: &[u8], behind: &[u8]) -> Result<Run,
     })
 }
 
-// The ending of a number; the input has to be 0 where it is not asked for.
+// The ending of a number; the input has to be 0 where it is not asked for. It takes both numbers, since neither alone
+// tells an ending, and so a conversion would be from a pair and no plainer.
 fn read_ending(ending: u8, input: u8) -> Option<Ending>
     ensures { result ≡ ending_of ending input }
 {

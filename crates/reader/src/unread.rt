@@ -1,5 +1,5 @@
 // Bytes that are read record by record.
-ghost use Rattle.std.specs.Prelude.{◌≡◌, ◌+◌, ◌^◌, ◌<◌, length, Some, None, MatchResult, IfOk};
+ghost use Rattle.std.specs.Prelude.{◌≡◌, ◌+◌, ◌^◌, ◌<◌, Some, None, MatchResult, IfOk};
 ghost use Rattle.reader.specs.declared.fault.Fault.TheVariants.{Cut as CutAt};
 ghost use Rattle.reader.specs.Record.{front, size_of};
 
@@ -29,7 +29,6 @@ impl<'a> Unread<'a> {
         ensures stands { MatchResult result (λ p. front self.old.rest.now ≡ Some (p.«record».kind, p.«record».body.now, self.new.rest.now)) (λ f. (front self.old.rest.now ≡ None) × (f ≡ CutAt self.old.at)) }
         ensures place { IfOk result (λ p. p.at ≡ self.old.at) }
         ensures onward { IfOk result (λ p. self.new.at ≡ self.old.at + size_of p.«record».body.now) }
-        ensures short { IfOk result (λ p. length p.«record».body.now < 65536) }
     {
         let at = self.at;
         let Some((record, behind)) = split(self.rest) else {
