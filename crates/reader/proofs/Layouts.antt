@@ -1,13 +1,12 @@
 -- Bytes open as a table exactly where they are the records of a lawful content.
-use Rattle.std.proofs.Common.{◌≡◌, ℕ, zero, suc, ◌+◌, ◌-◌, ◌<◌, ◌≤◌, Bool, true, false, ◌&&◌, ◌||◌, eqb, ltb, List, [], ◌∷◌, ◌++◌, length, get_or, replicate, Ok, sym, refl, ap, ◌∙◌, subst, arith, length-set}
+use Rattle.std.proofs.Common.{◌≡◌, ℕ, zero, suc, ◌+◌, ◌-◌, ◌<◌, ◌≤◌, Bool, true, false, ◌&&◌, ◌||◌, eqb, ltb, List, [], ◌∷◌, length, get_or, replicate, Ok, sym, refl, ap, ◌∙◌, subst, arith, length-set}
 use Rattle.std.specs.List.{AllByRecursion}
-use Rattle.std.proofs.lemmas.List.{ext_get_or}
 use Rattle.semantics.specs.declared.way.Way.TheVariants.{Absent}
 use Rattle.reader.specs.declared.row.Row.{Row}
 use Rattle.reader.specs.declared.row.Step.{Step}
 use Rattle.reader.specs.declared.stage.Stage.TheVariants.{Head}
 use Rattle.reader.specs.Record.{Records, records, next}
-use Rattle.reader.specs.Row.{unused, blank, error_at, declared, fitting}
+use Rattle.reader.specs.Row.{blank, error_at, declared, fitting}
 use Rattle.reader.specs.Draft.{with_way, with_step, with_error, follow}
 use Rattle.reader.specs.Table.{opened}
 use Rattle.reader.specs.Layout.{Action, Content, Once, way_in, fits, tabled, member, row_of, Lays, LaidOut}
@@ -35,16 +34,14 @@ errors_keep (s ∷ xs) r =
     let k = errors_keep xs (with_error r s) in
     (k.0, k.1, k.2, k.3, k.4 ∙ length-set r.errors s true)
 
-length-tabled : {X : Type 0} (n : ℕ) (f : ℕ → X) → length (tabled n f) ≡ n
+-- a list that has the value of f at each place
+is_tabled : {X : Type 0} (n : ℕ) (f : ℕ → X) (xs : List X) (d : X) → length xs ≡ n → ((i : ℕ) → i < n → get_or xs i d ≡ f i) → xs ≡ tabled n f
 unfolding tabled
-length-tabled zero f = refl
-length-tabled (suc n) f = ap suc (length-tabled n (λ i. f (suc i)))
-
-get_or-tabled : {X : Type 0} (n i : ℕ) (f : ℕ → X) (d : X) → i < n → get_or (tabled n f) i d ≡ f i
-unfolding tabled
-get_or-tabled zero i f d h = absurd (omega arith)
-get_or-tabled (suc n) zero f d h = refl
-get_or-tabled (suc n) (suc i) f d h = get_or-tabled n i (λ j. f (suc j)) d (omega arith)
+is_tabled zero f [] d l h = refl
+is_tabled (suc n) f (x ∷ xs) d l h =
+    let rest = is_tabled n (λ i. f (suc i)) xs d (omega arith) (λ i k. h (suc i) (omega arith)) in
+    λ i. h 0 (omega arith) i ∷ rest i
+is_tabled n f xs d l h = absurd (omega arith)
 
 abbrev content : ℕ → ℕ → List Action → List Step → List ℕ → Content
 content n s xs ss es = record { states = n; start = s; actions = xs; steps = ss; errors = es }
@@ -70,24 +67,11 @@ module _ (n s : ℕ) (xs : List Action) (ok : AllByRecursion Sized xs) (once : O
       let errors_are : r2.errors ≡ replicate 64 false = k2.2 ∙ k1.3 in
       let within : AllByRecursion (λ e. e < r2.states) es = subst (λ m. AllByRecursion (λ e. e < m) es) (sym states_are) fit in
       let wide : (length r2.errors ≡ 64) × (r2.states ≤ 64) = (ap length errors_are, subst (λ m. m ≤ 64) (sym states_are) small) in
-      let ways_are : r1.ways ≡ tabled 32 (λ i. way_in (suc i) xs) =
-      ext_get_or Absent r1.ways (tabled 32 (λ i. way_in (suc i) xs)) (k1.4 ∙ sym (length-tabled 32 (λ i. way_in (suc i) xs))) (λ i h.
-      let low : i < 32 = subst (λ m. i < m) k1.4 h in
-      let back : suc i - 1 ≡ i = omega arith in
-      sym (ap (λ j. get_or r1.ways j Absent) back) ∙ sym (way_inside r1 (suc i) (omega arith) (omega arith)) ∙ ways_in n s (suc i) xs ok once
-      ∙ sym (get_or-tabled 32 i (λ j. way_in (suc j) xs) Absent low)) in
-      let failing : (all_errors r2 es).errors ≡ tabled 64 (λ q. member q es) =
-      ext_get_or false (all_errors r2 es).errors (tabled 64 (λ q. member q es)) (k3.4 ∙ ap length errors_are ∙ sym (length-tabled 64 (λ q. member q es))) (λ q h.
-      let low : q < 64 = subst (λ m. q < m) (k3.4 ∙ ap length errors_are) h in
-      errors_in q es r2 wide within ∙ ap (λ b. b || member q es) (ap (λ l. get_or l q false) errors_are ∙ get_or_alike 64 q false)
-      ∙ sym (get_or-tabled 64 q (λ p. member p es) false low)) in
-      let counted : 0 + length ss ≡ length ss = omega arith in
-      let ways_path = k3.1 ∙ k2.1 ∙ ways_are in
-      let count_path = k3.2 ∙ placed.1 ∙ counted in
-      let steps_path = k3.3 ∙ placed.0 ∙ ap (λ m. ss ++ replicate (256 - m) unused) counted in
-      let states_path = k3.0.0 ∙ states_are in
-      let start_path = k3.0.1 ∙ k2.0.1 ∙ k1.0.1 in
-      λ i. record { states = states_path i; start = start_path i; ways = ways_path i; count = count_path i; steps = steps_path i; errors = failing i }
+      let ways_are = is_tabled 32 (λ i. way_in (suc i) xs) r1.ways Absent k1.4 (λ i h. grind (arith, way_inside r1 (suc i), ways_in n s (suc i) xs ok once)) in
+      let failing =
+      is_tabled 64 (λ q. member q es) (all_errors r2 es).errors false (k3.4 ∙ wide.0) (λ q h.
+      errors_in q es r2 wide within ∙ ap (λ b. b || member q es) (ap (λ l. get_or l q false) errors_are ∙ get_or_alike 64 q false)) in
+      grind arith
 
 all_same : {X : Type 0} (f g : X → Bool) → ((x : X) → f x ≡ g x) → (xs : List X) → AllByRecursion (λ x. g x ≡ true) xs → AllByRecursion (λ x. f x ≡ true) xs
 all_same f g e [] h = tt

@@ -2,6 +2,7 @@
 use Rattle.std.proofs.Common.{◌≡◌, ℕ, ◌+◌, ◌<◌, ◌≤◌, true, false, List, [], ◌∷◌, Ok, sym, refl, ap, ◌∙◌, arith}
 use Rattle.std.proofs.lemmas.Bool.{le-leb, lt-ltb}
 use Rattle.std.proofs.lemmas.Bool.Decides.{nat_tests}
+use Rattle.std.specs.List.{fold}
 use Rattle.semantics.specs.declared.way.Way.{Way}
 use Rattle.semantics.specs.Way.{number}
 use Rattle.reader.specs.declared.row.Row.{Row}
@@ -19,16 +20,13 @@ use Rattle.reader.proofs.Follows.{first, follow_more}
 
 -- a row with all of a list
 abbrev pub all_ways : Row → List Action → Row
-all_ways r [] = r
-all_ways r (a ∷ rest) = all_ways (with_way r a.action a.way) rest
+all_ways r xs = fold (λ r a. with_way r a.action a.way) r xs
 
 abbrev pub all_steps : Row → List Step → Row
-all_steps r [] = r
-all_steps r (s ∷ ss) = all_steps (with_step r s) ss
+all_steps r xs = fold with_step r xs
 
 abbrev pub all_errors : Row → List ℕ → Row
-all_errors r [] = r
-all_errors r (s ∷ ss) = all_errors (with_error r s) ss
+all_errors r xs = fold with_error r xs
 
 -- each of a list may be added in its turn
 abbrev pub WaysFit : Row → List Action → Type 0
