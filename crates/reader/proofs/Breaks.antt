@@ -36,8 +36,7 @@ blames_cond : {T : Type 0} (at : ℕ) (b : Bool) (x y : Result T faults.Fault) �
 blames_cond at b x y p q = grind arith
 
 blames_staged : (at : ℕ) (stage : Stage) (x : Result Row faults.Fault) → Blames at x → Blames at (staged stage x)
-blames_staged at stage (Ok r) p = tt
-blames_staged at stage (Err f) p = p
+blames_staged at stage x p = grind arith
 
 module _ (r : Row) (at : ℕ) where
   blames_head : (body : List ℕ) → Blames at (headed at body)
@@ -66,10 +65,11 @@ data Reach : Row → Stage → ℕ → List (ℕ × List ℕ) → Row → Stage 
       → closed stage ≡ false → entered r stage at kind body ≡ Ok t → Reach t.0 t.1 (at + size_of body) front r' stage' → Reach r stage at ((kind, body) ∷ front) r' stage'
 
 reach_follow : {r : Row} {stage : Stage} {at : ℕ} {front : List (ℕ × List ℕ)} {r' : Row} {stage' : Stage} → Reach r stage at front r' stage' → (more : Records) → follow r stage at (followed front more) ≡ follow r' stage' (at + sizes front) more
-reach_follow (here r stage at) more = let e : at ≡ at + 0 = omega arith in ap (λ a. follow r stage a more) e
-reach_follow {r} {stage} {at} (on {kind = kind} {body = body} {front = front} {r' = r'} {stage' = stage'} t going e further) more =
-    let sum : (at + size_of body) + sizes front ≡ at + (size_of body + sizes front) = omega arith in
-    follow_more r stage at kind body (followed front more) t going e ∙ reach_follow further more ∙ ap (λ a. follow r' stage' a more) sum
+reach_follow (here r stage at) more = grind arith
+reach_follow {r} {stage} {at} (on {kind = kind} {body = body} {front = front} t going e further) more =
+    let first = follow_more r stage at kind body (followed front more) t going e in
+    let rest = reach_follow further more in
+    grind arith
 
 -- why following stops with a fault
 data Stops (r : Row) (stage : Stage) (at : ℕ) (rest : Records) (f : faults.Fault) : Type 0 where
@@ -135,13 +135,7 @@ reach_stray {front} {r} {stage} kind body f reach going e b =
     err_ok (sym here_again ∙ opens)
 
 stray_stands : (f : faults.Fault) (front : List (ℕ × List ℕ)) (rest : Records) → inner f ≡ true → Stray front rest → Stands f front rest
-stray_stands (Cut at) front rest i s = cc
-stray_stands (Kind at) front rest i s = s
-stray_stands (Length at) front rest i s = s
-stray_stands (Value at) front rest i s = s
-stray_stands (Repeated at) front rest i s = s
-stray_stands (Overfull at) front rest i s = s
-stray_stands (Trailing at) front rest i s = cc
+stray_stands f front rest i s = grind arith
 
 pub opened_breaks : (bytes : List ℕ) (f : faults.Fault) → opened bytes ≡ Err f → Breaks bytes f
 unfolding opened Breaks

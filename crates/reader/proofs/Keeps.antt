@@ -1,5 +1,5 @@
 -- Every record that is taken in keeps the facts of a table, and adds its bytes to what the content takes.
-use Rattle.std.proofs.Common.{◌≡◌, ℕ, ◌+◌, ◌-◌, ◌*◌, ◌<◌, ◌≤◌, Bool, true, false, cond, ◌≢◌, List, length, get_or, set, sym, refl, ap, ◌∙◌, subst, arith, length-set, get_or-set_other}
+use Rattle.std.proofs.Common.{◌≡◌, ℕ, ◌+◌, ◌-◌, ◌*◌, ◌<◌, ◌≤◌, Bool, true, false, cond, ◌≢◌, List, length, get_or, set, sym, refl, subst, arith, length-set, get_or-set_other}
 use Rattle.std.proofs.lemmas.Bool.{both_ways}
 use Rattle.std.proofs.lemmas.Bool.Decides.{nat_tests}
 use Rattle.std.proofs.lemmas.Grind.{common_steps, get_or-set_at}
@@ -81,22 +81,12 @@ sized_between : (r : Row) (stage : Stage) (k : ℕ) → 2 ≤ k → due stage k 
 sized_between r stage k l d = grind (arith, nat_tests)
 
 pub entry_sized : {r : Row} {stage : Stage} {kind : ℕ} {body : List ℕ} {r' : Row} {stage' : Stage} → Entry r stage kind body r' stage' → Keeps r → sized r stage + size_of body ≡ sized r' stage'
-entry_sized {r} {stage} {kind} {body} (is_head n s d k b l u h e g) keeps =
-    (λ i. sized r (d i) + size_of (b i)) ∙ sym (λ i. sized (e i) (g i))
-entry_sized {r} {stage} {kind} {body} (is_action a w d k b l u dw new e g) keeps =
-    let from = sized_between r stage 2 (omega arith) d in
-    let more = count_set declared r.ways (a - 1) (way_from w) Absent (omega arith) (sym (ap declared (way_inside r a l u)) ∙ new) dw in
-    let grown : taking r + 6 ≡ taking (with_way r a (way_from w)) = omega arith in
-    (λ i. from i + size_of (b i)) ∙ grown ∙ sym (λ i. sized (e i) (g i))
-entry_sized {r} {stage} {kind} {body} (is_step s d k b f new room e g) keeps =
-    let from = sized_between r stage 3 (omega arith) d in
-    let grown : taking r + 7 ≡ taking (with_step r s) = omega arith in
-    (λ i. from i + size_of (b i)) ∙ grown ∙ sym (λ i. sized (e i) (g i))
-entry_sized {r} {stage} {kind} {body} (is_error s d k b h new e g) keeps =
-    let from = sized_between r stage 4 (omega arith) d in
+entry_sized {r} {stage} (is_head n s d k b l u h e g) keeps = rw (d, b, e, g)
+entry_sized {r} {stage} (is_action a w d k b l u dw new e g) keeps =
+    let more = count_set declared r.ways (a - 1) (way_from w) Absent (omega arith) (rw (way_inside r a l u) at new) dw in
+    rw (sized_between r stage 2 (omega arith) d, b, e, g) (omega arith)
+entry_sized {r} {stage} (is_step s d k b f new room e g) keeps = rw (sized_between r stage 3 (omega arith) d, b, e, g) (omega arith)
+entry_sized {r} {stage} (is_error s d k b h new e g) keeps =
     let more = count_set (λ b. b) r.errors s true false (omega arith) new refl in
-    let grown : taking r + 5 ≡ taking (with_error r s) = omega arith in
-    (λ i. from i + size_of (b i)) ∙ grown ∙ sym (λ i. sized (e i) (g i))
-entry_sized {r} {stage} {kind} {body} (is_end d k b e g) keeps =
-    let from = sized_between r stage 5 (omega arith) d in
-    (λ i. from i + size_of (b i)) ∙ sym (λ i. sized (e i) (g i))
+    rw (sized_between r stage 4 (omega arith) d, b, e, g) (omega arith)
+entry_sized {r} {stage} (is_end d k b e g) keeps = rw (sized_between r stage 5 (omega arith) d, b, e, g)

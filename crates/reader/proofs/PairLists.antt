@@ -36,9 +36,7 @@ Gathered qs at rs (Ok ps) = (xs : List (ℕ × List ℕ)) × (more : List Pair) 
 Gathered qs at rs (Err f) = (xs : List (ℕ × List ℕ)) × (more : List Pair) × (rest : Records) × (rs ≡ followed xs rest) × AllTell xs more × Behind (length qs) at f xs rest
 
 behind_more : (n at m : ℕ) (f : evidence.EvidenceFault) (x : ℕ × List ℕ) (xs : List (ℕ × List ℕ)) (rest : Records) → m ≡ n + 1 → Behind m (at + size_of x.1) f xs rest → Behind n at f (x ∷ xs) rest
-behind_more n at m Pairs x xs rest e b = let c = b.0 in (omega arith, b.1)
-behind_more n at m (Record f) x xs rest e b = let c = b.0 in let d = b.1 in (omega arith, omega arith, b.2)
-behind_more n at m (Moves k) x xs rest e b = b
+behind_more n at m f x xs rest e b = grind arith
 
 gathered_more : (qs : List Pair) (at kind : ℕ) (body : List ℕ) (rest : Records) (p : Pair) (o : Result (List Pair) evidence.EvidenceFault) → Tells kind body p → Gathered (qs ++ p ∷ []) (at + size_of body) rest o → Gathered qs at (next kind body rest) o
 gathered_more qs at kind body rest p (Ok ps) t (xs, more, e, ts, is, few) = ((kind, body) ∷ xs, p ∷ more, ap (next kind body) e, (t, ts), is ∙ append_assoc qs (p ∷ []) more, few)
@@ -84,9 +82,7 @@ unfolding pairs_in PairsLaid
 laid_pairs bytes ps l = let few = l.3 in ap (gather [] 0) l.1 ∙ told_gather l.0 ps [] 0 l.2 (omega arith)
 
 stands_behind : (f : evidence.EvidenceFault) (xs : List (ℕ × List ℕ)) (rest : Records) → Behind 0 0 f xs rest → PairsStand f xs rest
-stands_behind Pairs xs rest b = let c = b.0 in (omega arith, b.1)
-stands_behind (Record f) xs rest b = let c = b.0 in let d = b.1 in (omega arith, omega arith, b.2)
-stands_behind (Moves k) xs rest b = b
+stands_behind f xs rest b = grind arith
 
 pub pairs_break : (bytes : List ℕ) (f : evidence.EvidenceFault) → pairs_in bytes ≡ Err f → PairsBreak bytes f
 unfolding pairs_in PairsBreak
