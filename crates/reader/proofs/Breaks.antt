@@ -82,7 +82,7 @@ Stopped r stage at rs f =
     (front : List (ℕ × List ℕ)) × (rest : Records) × (r' : Row) × (stage' : Stage) × (rs ≡ followed front rest) × Reach r stage at front r' stage' × Stops r' stage' (at + sizes front) rest f
 
 stops_at_once : (r : Row) (stage : Stage) (at : ℕ) (rs : Records) (f : faults.Fault) → Stops r stage at rs f → Stopped r stage at rs f
-stops_at_once r stage at rs f s = let e : at ≡ at + 0 = omega arith in ([], rs, r, stage, refl, here r stage at, subst (λ a. Stops r stage a rs f) e s)
+stops_at_once r stage at rs f s = let same : at + 0 ≡ at = omega arith in ([], rs, r, stage, refl, here r stage at, rw same s)
 
 stopped : (rs : Records) (r : Row) (stage : Stage) (at : ℕ) (f : faults.Fault) → follow r stage at rs ≡ Err f → Stopped r stage at rs f
 unfolding follow
@@ -103,11 +103,10 @@ stopped (next kind body rest) r stage at f p =
         → ((x : Row) (y : Stage) (z : ℕ) (g : faults.Fault) → follow x y z rest ≡ Err g → Stopped x y z rest g) → Stopped r stage at (next kind body rest) f
     go (Ok t) e going further =
         let s = further t.0 t.1 (at + size_of body) f (sym (follow_more r stage at kind body rest t going e) ∙ p) in
-        let sum : (at + size_of body) + sizes s.0 ≡ at + (size_of body + sizes s.0) = omega arith in
-        ((kind, body) ∷ s.0, s.1, s.2, s.3, ap (next kind body) s.4, on t going e s.5, subst (λ a. Stops s.2 s.3 a s.1 f) sum s.6)
+        let sum : at + (size_of body + sizes s.0) ≡ (at + size_of body) + sizes s.0 = omega arith in
+        ((kind, body) ∷ s.0, s.1, s.2, s.3, ap (next kind body) s.4, on t going e s.5, rw sum s.6)
     go (Err g) e going further =
-        let same : g ≡ f = err_same (sym (follow_refused r stage at kind body rest g going e) ∙ p) in
-        stops_at_once r stage at (next kind body rest) f (bad kind body rest going refl (e ∙ ap Err same))
+        stops_at_once r stage at (next kind body rest) f (bad kind body rest going refl (cc))
 
 -- every draft can be completed
 completes : (r : Row) (stage : Stage) (at : ℕ) → (more : Records) × (r' : Row) × (follow r stage at more ≡ Ok r')
@@ -140,18 +139,14 @@ stray_stands f front rest i s = grind arith
 pub opened_breaks : (bytes : List ℕ) (f : faults.Fault) → opened bytes ≡ Err f → Breaks bytes f
 unfolding opened Breaks
 opened_breaks bytes f p =
-    let s = stopped (records bytes) (blank 1 0) Head 0 f p in
-    go s.0 s.1 s.2 s.3 s.4 s.5 s.6
+    let (front, rest, r, stage, cutting, reach, stops) = stopped (records bytes) (blank 1 0) Head 0 f p in
+    go front rest r stage cutting reach stops
   where
     go : (front : List (ℕ × List ℕ)) (rest : Records) (r : Row) (stage : Stage) → records bytes ≡ followed front rest → Reach (blank 1 0) Head 0 front r stage → Stops r stage (0 + sizes front) rest f → Breaks bytes f
-    go front rest r stage cutting reach (short going why e) =
-        let at : sizes front ≡ 0 + sizes front = omega arith in
-        (front, rest, cutting, at ∙ sym (ap place e), reach_begins reach, subst (λ g. Stands g front rest) (sym e) why)
+    go front rest r stage cutting reach (short going why e) = (front, rest, cutting, grind arith, reach_begins reach, rw e why)
     go front rest r stage cutting reach (bad kind body more going is e) =
-        let at : sizes front ≡ 0 + sizes front = omega arith in
-        let blame = subst (Blames (0 + sizes front)) e (blames_entered r (0 + sizes front) stage kind body) in
-        (front, rest, cutting, at ∙ sym blame.0, reach_begins reach, stray_stands f front rest blame.1 (kind, body, more, is, reach_stray kind body f reach going e))
+        let (there, in_record) = rw e at (blames_entered r (0 + sizes front) stage kind body) in
+        (front, rest, cutting, omega arith, reach_begins reach, stray_stands f front rest in_record (kind, body, more, is, reach_stray kind body f reach going e))
     go front rest r stage cutting reach (long shut some e) =
-        let at : sizes front ≡ 0 + sizes front = omega arith in
         let whole = follow_lays (followed front none) r (reach_follow reach none ∙ follow_done r stage (0 + sizes front) shut) in
-        (front, rest, cutting, at ∙ sym (ap place e), reach_begins reach, subst (λ g. Stands g front rest) (sym e) ((r, whole), some))
+        (front, rest, cutting, grind arith, reach_begins reach, rw e ((r, whole), some))

@@ -4,7 +4,8 @@ use Rattle.std.specs.List.{AllByRecursion}
 use Rattle.std.proofs.lemmas.List.{take_more_set, set_at, append_assoc, append-nil, length_push}
 use Rattle.std.proofs.lemmas.Bool.Decides.{nat_tests}
 use Rattle.std.proofs.lemmas.Grind.{get_or-set_at}
-use Rattle.std.proofs.lemmas.Bool.{cases_eq, eq-eqb, ne_eqb}
+use Rattle.std.proofs.lemmas.List.Elements.{recursion_from_All}
+use Rattle.std.proofs.lemmas.Bool.{cond_both, cases_eq, eq-eqb, ne_eqb}
 use Rattle.semantics.specs.declared.way.Way.{Way}
 use Rattle.semantics.specs.declared.way.Way.TheVariants.{Absent}
 use Rattle.reader.specs.declared.row.Row.{Row}
@@ -21,7 +22,7 @@ all_zip : {X : Type 0} {P Q R : X → Type 0} → ((x : X) → P x → Q x → R
 all_zip f [] p q = tt
 all_zip f (x ∷ xs) p q = (f x p.0 q.0, all_zip f xs p.1 q.1)
 
-all_map : {X : Type 0} {P Q : X → Type 0} → ((x : X) → P x → Q x) → (xs : List X) → AllByRecursion P xs → AllByRecursion Q xs
+pub all_map : {X : Type 0} {P Q : X → Type 0} → ((x : X) → P x → Q x) → (xs : List X) → AllByRecursion P xs → AllByRecursion Q xs
 all_map f [] p = tt
 all_map f (x ∷ xs) p = (f x p.0, all_map f xs p.1)
 
@@ -72,18 +73,13 @@ way_got k (a ∷ xs) r len absent ok once =
 
 -- the ways of no action at all
 way-blank : (n s k : ℕ) → way_of (blank n s) k ≡ Absent
-way-blank n s k = go (leb 1 k && leb k 32)
-  where
-    go : (b : Bool) → cond b (get_or (replicate 32 Absent) (k - 1) Absent) Absent ≡ Absent
-    go true = get_or_alike 32 (k - 1) Absent
-    go false = refl
+way-blank n s k = cond_both (leb 1 k && leb k 32) _ Absent (λ w. w ≡ Absent) (λ e. get_or_alike 32 (k - 1) Absent) (λ e. refl)
 
 pub ways_in : (n s k : ℕ) (xs : List Action) → AllByRecursion Sized xs → Once (λ a. a.action) xs → way_of (all_ways (blank n s) xs) k ≡ way_in k xs
 ways_in n s k xs ok once = way_got k xs (blank n s) refl (way-blank n s k) ok once
 
 pub fresh-blank : (n s : ℕ) (xs : List Action) → AllByRecursion (Fresh (blank n s)) xs
-fresh-blank n s [] = tt
-fresh-blank n s (a ∷ xs) = (ap declared (way-blank n s a.action), fresh-blank n s xs)
+fresh-blank n s xs = recursion_from_All (Fresh (blank n s)) xs (λ k d h. ap declared (way-blank n s (get_or xs k d).action))
 
 -- Steps -----------------------------------------------------------------------------------------------------------
 
@@ -96,7 +92,7 @@ told_push t s [] = grind arith
 told_push t s (x ∷ xs) = grind (arith, told_push t s xs)
 
 -- the places of a row hold its steps, and then nothing
-abbrev Held : Row → Type 0
+abbrev pub Held : Row → Type 0
 Held r = (length r.steps ≡ 256) × (r.count ≤ 256)
 
 held_step : (r : Row) (s : Step) → Held r → r.count < 256 → Held (with_step r s)
@@ -135,8 +131,7 @@ once_steps (s ∷ xs) r h ok once new few =
     )
 
 pub untold_none : (r : Row) → r.count ≡ 0 → (xs : List Step) → AllByRecursion (Untold r) xs
-untold_none r e [] = tt
-untold_none r e (s ∷ xs) = let z : min r.count 256 ≡ 0 = omega arith in (ap (λ n. told s (take n r.steps)) z, untold_none r e xs)
+untold_none r e xs = let z : min r.count 256 ≡ 0 = omega arith in recursion_from_All (Untold r) xs (λ k d h. ap (λ n. told (get_or xs k d) (take n r.steps)) z)
 
 -- the steps fill the places from the first on
 pub steps_placed : (xs ys : List Step) (r : Row) → r.count ≡ length ys → r.steps ≡ ys ++ replicate (256 - length ys) unused → length ys + length xs ≤ 256
@@ -155,7 +150,7 @@ steps_placed (s ∷ xs) ys r ec es few =
 abbrev Unfailed : Row → ℕ → Type 0
 Unfailed r s = error_at r s ≡ false
 
-abbrev Wide : Row → Type 0
+abbrev pub Wide : Row → Type 0
 Wide r = (length r.errors ≡ 64) × (r.states ≤ 64)
 
 wide_error : (r : Row) (s : ℕ) → Wide r → Wide (with_error r s)

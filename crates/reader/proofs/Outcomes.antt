@@ -8,9 +8,6 @@ module _ {T E : Type 0} where
   pub ok_same : {x y : T} → ◌≡◌ {A = Result T E} (Ok x) (Ok y) → x ≡ y
   ok_same p = cc
 
-  pub err_same : {e f : E} → ◌≡◌ {A = Result T E} (Err e) (Err f) → e ≡ f
-  err_same p = cc
-
   -- a test that had to pass
   pub cond_ok : (b : Bool) (o : Result T E) (e : E) {x : T} → cond b o (Err e) ≡ Ok x → (b ≡ true) × (o ≡ Ok x)
   cond_ok true o e p = (refl, p)

@@ -13,7 +13,7 @@ use Rattle.reader.specs.Evidence.{MovesTold, RunLaid, RunStands, RunBreaks}
 use Rattle.reader.proofs.Records.{records-none, records-some, records-cut, records-next}
 
 records_empty : (bytes : List ℕ) → records bytes ≡ none → length bytes ≡ 0
-records_empty bytes e = ⊎_elim (λ (some : 0 < length bytes). absurd (records-some bytes some e)) (λ (h : length bytes ≤ 0). omega arith) (cases_lt 0 (length bytes))
+records_empty bytes e = grind (arith, cases_lt 0 (length bytes), records-some bytes)
 
 -- bytes for n moves tell n moves
 moves_told : (n : ℕ) (bytes : List ℕ) → length bytes ≡ 3 * n → MovesTold bytes (moves_in bytes) × (length (moves_in bytes) ≡ n)
@@ -94,11 +94,7 @@ unfolding run_in RunLaid
 laid_run bytes ending ms (e, i, moves, is, told, ts, few) = go (front bytes) refl
   where
     go : (o : Option (ℕ × List ℕ × List ℕ)) → front bytes ≡ o → recorded o ≡ Ok (ending, ms)
-    go None f =
-        ⊎_elim
-        (λ (some : 0 < length bytes). cc (records-cut bytes some f, is))
-        (λ (h : length bytes ≤ 0). (let empty = records-none bytes (omega arith) in cc))
-        (cases_lt 0 (length bytes))
+    go None f = absurd (grind (arith, cases_lt 0 (length bytes), records-none, records-cut))
     go (Some t) f =
         let same = sym (records-next bytes t f) ∙ is in
         let kind_is : t.0 ≡ 18 = cc same in
