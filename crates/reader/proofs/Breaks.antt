@@ -1,5 +1,5 @@
 -- A refusal points at the first record that breaks the layout.
-use Rattle.std.proofs.Common.{◌≡◌, ℕ, ◌+◌, Bool, true, false, cond, ◌⊎◌, List, [], ◌∷◌, ◌++◌, Ok, Err, Result, sym, refl, ap, ◌∙◌, subst, inl, inr, arith}
+use Rattle.std.proofs.Common.{◌≡◌, ℕ, ◌+◌, Bool, true, false, cond, ◌⊎◌, List, [], ◌∷◌, ◌++◌, Ok, Err, Result, sym, refl, ap, ◌∙◌, inl, inr, arith}
 use Rattle.std.proofs.lemmas.Bool.{cases_Bool}
 use Rattle.reader.specs.declared.fault.Fault as faults
 use Rattle.reader.specs.declared.fault.Fault.TheVariants.{Cut, Kind, Length, Value, Repeated, Overfull, Trailing}
@@ -12,7 +12,7 @@ use Rattle.reader.specs.Row.{blank}
 use Rattle.reader.specs.Draft.{headed, acted, stepped, failed, ended, staged, entered, closed, follow}
 use Rattle.reader.specs.Table.{opened}
 use Rattle.reader.specs.Layout.{Begins, Stray, Stands, Breaks, closing}
-use Rattle.reader.proofs.Outcomes.{err_ok, err_same}
+use Rattle.reader.proofs.Outcomes.{err_ok}
 use Rattle.reader.proofs.Follows.{follow_refused, follow_more, follow_done}
 use Rattle.reader.proofs.Parts.{follow_closing, follow_table}
 use Rattle.reader.proofs.Layouts.{follow_lays, lays_follow}

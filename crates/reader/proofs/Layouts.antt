@@ -1,17 +1,17 @@
 -- Bytes open as a table exactly where they are the records of a lawful content.
-use Rattle.std.proofs.Common.{◌≡◌, ℕ, zero, suc, ◌+◌, ◌-◌, ◌<◌, ◌≤◌, Bool, true, false, ◌&&◌, ◌||◌, eqb, ltb, List, [], ◌∷◌, length, get_or, replicate, Ok, sym, refl, ap, ◌∙◌, subst, arith, length-set}
+use Rattle.std.proofs.Common.{◌≡◌, ℕ, zero, suc, ◌+◌, ◌-◌, ◌<◌, ◌≤◌, true, false, ◌||◌, List, [], ◌∷◌, length, get_or, replicate, Ok, sym, refl, ap, ◌∙◌, arith, length-set}
 use Rattle.std.specs.List.{AllByRecursion}
 use Rattle.semantics.specs.declared.way.Way.TheVariants.{Absent}
 use Rattle.reader.specs.declared.row.Row.{Row}
 use Rattle.reader.specs.declared.row.Step.{Step}
 use Rattle.reader.specs.declared.stage.Stage.TheVariants.{Head}
 use Rattle.reader.specs.Record.{Records, records, next}
-use Rattle.reader.specs.Row.{blank, error_at, declared, fitting}
+use Rattle.reader.specs.Row.{blank, error_at, fitting}
 use Rattle.reader.specs.Draft.{with_way, with_step, with_error, follow}
 use Rattle.reader.specs.Table.{opened}
 use Rattle.reader.specs.Layout.{Action, Content, Once, way_in, fits, tabled, member, row_of, Lays, LaidOut}
 use Rattle.reader.proofs.Rows.{way_inside, get_or_alike}
-use Rattle.reader.proofs.Parts.{all_ways, all_steps, all_errors, WaysFit, EachStepFits, EachErrorFits, table_told, follow_table}
+use Rattle.reader.proofs.Parts.{all_ways, all_steps, all_errors, table_told, follow_table}
 use Rattle.std.proofs.lemmas.List.Elements.{recursion_from_All}
 use Rattle.reader.proofs.Contents.{all_map, Held, Wide, Sized, ways_once, once_ways, ways_in, fresh-blank, steps_once, once_steps, untold_none, steps_placed, errors_once, once_errors, errors_in}
 
