@@ -63,7 +63,7 @@ module _ {a c : System} (wfa : WellFormed a) where
 pub part_front : {ways : ℕ → Way} {c : System} {q r : ℕ} {u w : List ℕ} (v : List ℕ) → Part ways c q u w r → Prefix v u
     → (q' : ℕ) × (w' : List ℕ) × Part ways c q v w' q' × Prefix w' w
 part_front {q = q} [] done h = (q, [], done, prefix_refl [])
-part_front (x ∷ v) done (s, e) = absurd (middle≢nil [] (v ++ s) x e)
+part_front (x ∷ v) done (s, e) = cc
 part_front v (inner k m) h = let (q', w', m', pre) = part_front v m h in (q', w', inner k m', pre)
 part_front v (own {w = w} y n a k m) h =
     let (q', w', m', pre) = part_front v m h in (q', y ∷ w', own y n a k m', prefix_cons y w' w pre)

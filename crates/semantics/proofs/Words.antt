@@ -1,5 +1,5 @@
 -- Words: letters, prefixes and pruning.
-use Rattle.std.proofs.Common.{◌≡◌, ℕ, Bool, true, false, ◌⊎◌, List, [], ◌∷◌, ◌++◌, sym, refl, ap, ◌∙◌, subst, inl, inr, append_assoc, append-nil, arith}
+use Rattle.std.proofs.Common.{length, length-append, ◌≡◌, ℕ, Bool, true, ◌⊎◌, List, [], ◌∷◌, ◌++◌, sym, refl, ap, ◌∙◌, subst, inl, inr, append_assoc, append-nil, arith}
 use Rattle.std.specs.List.{AllByRecursion}
 use Rattle.std.proofs.ByRecursion.{All-weaker}
 use Rattle.semantics.specs.declared.way.Way.{Way}
@@ -31,14 +31,13 @@ pub prefix_append : (u v : List ℕ) → Prefix u (u ++ v)
 prefix_append u v = (v, refl)
 
 pub prefix_trans : (u v w : List ℕ) → Prefix u v → Prefix v w → Prefix u w
-prefix_trans u v w (s, p) (t, q) = (s ++ t, sym (append_assoc u s t) ∙ ap (λ z. z ++ t) p ∙ q)
+prefix_trans u v w (s, p) (t, q) = (s ++ t, grind (arith, append_assoc {A = ℕ}))
 
 pub prefix_cons : (x : ℕ) (u v : List ℕ) → Prefix u v → Prefix (x ∷ u) (x ∷ v)
 prefix_cons x u v (s, p) = (s, ap (λ z. x ∷ z) p)
 
 pub middle≢nil : (s o : List ℕ) (x : ℕ) → s ++ (x ∷ o) ≡ [] → ⊥
-middle≢nil [] o x q = let z : ◌≡◌ {A = ℕ} 0 1 = cc in omega arith
-middle≢nil (y ∷ s) o x q = let z : ◌≡◌ {A = ℕ} 0 1 = cc in omega arith
+middle≢nil s o x q = omega (arith, length-append s (x ∷ o), ap length q)
 
 -- a prefix of w ++ o is one of w, or goes on into o
 pub prefix_split : (u w o : List ℕ) → Prefix u (w ++ o) → Prefix u w ⊎ ((o₁ : List ℕ) × (u ≡ w ++ o₁) × Prefix o₁ o)
@@ -77,9 +76,8 @@ prune_split e (x ∷ w) = go (e.way x) refl (prune e w) (prune_split e w)
     go Output q (y ∷ r) (o, p, h) = (o, ap (λ z. x ∷ z) p, h)
 
 put_prefix : (b : Bool) (x : ℕ) (r : List ℕ) → Prefix (put b x r) (x ∷ r)
-put_prefix false x r = prefix_refl (x ∷ r)
-put_prefix true x [] = (x ∷ [], refl)
-put_prefix true x (y ∷ r) = prefix_refl (x ∷ (y ∷ r))
+put_prefix true x [] = prefix_append [] (x ∷ [])
+put_prefix b x r = prefix_refl (x ∷ r)
 
 prune_outputs : (e : System) (o : List ℕ) → Outputs e o → prune e o ≡ []
 prune_outputs e [] h = refl
