@@ -1,5 +1,5 @@
 -- What may replace a system may replace it in a pair.
-use Rattle.std.proofs.Common.{◌≡◌, ℕ, ◌<◌, false, ◌⊎◌, List, [], ◌∷◌, ◌++◌, sym, refl, ap, ◌∙◌, subst, subst₂, inl, inr, append-nil}
+use Rattle.std.proofs.Common.{◌≡◌, ℕ, ◌<◌, false, ◌⊎◌, List, [], ◌∷◌, ◌++◌, sym, ap, ◌∙◌, subst, subst₂, inl, inr, append-nil}
 use mathlib.Core.Path.{fun_ext}
 use Rattle.std.proofs.ByRecursion.{All-append}
 use Rattle.semantics.specs.declared.way.Way.{Way}
@@ -8,7 +8,7 @@ use Rattle.semantics.specs.System.{System, WellFormed, accepts}
 use Rattle.semantics.specs.Trace.{Runs, here, letter, After, Word, ErrorTrace, Trace, Flooded}
 use Rattle.semantics.specs.Replacement.{MayReplace}
 use Rattle.semantics.specs.Coupling.{Synced, Composable, joined, CoupledError, first_fails, second_fails, second_misses, first_misses}
-use Rattle.semantics.specs.Theorems.{CouplingPreservesReplacement, ReplacementIsReflexive, ReplacementChains}
+use Rattle.semantics.specs.Theorems.{CouplingPreservesReplacement, ReplacementChains}
 use Rattle.semantics.proofs.Ways.{present_nonzero, input_present, output_present, input≢output}
 use Rattle.semantics.proofs.Words.{prefix_append, word_like, outputs_like}
 use Rattle.semantics.proofs.Runs.{runs_append, runs_split, runs_letter, runs_in, runs_word}
@@ -157,9 +157,6 @@ coupling_preserves_replacement_lem a b c wfa wfb wfc h R =
       replaced wfa wfb wfc (coupling_is_well_formed_lem c a wfc wfa) k
           (swapped (couple_implements c a wfc wfa (composable_swap h))) (swapped (couple_implements c b wfc wfb (composable_swap k))) R,
     )
-
-pub replacement_is_reflexive_lem : ReplacementIsReflexive
-replacement_is_reflexive_lem a = record { ways = λ x. refl; errors = λ w t. t; floods = λ w t. t }
 
 pub replacement_chains_lem : ReplacementChains
 replacement_chains_lem a b c h k =
