@@ -1,5 +1,5 @@
 -- The sets of states are what runs say, and words are decided along them.
-use Rattle.std.proofs.Common.{◌≡◌, ℕ, suc, ◌<◌, Bool, true, false, not, ◌&&◌, ◌||◌, ◌≢◌, ◌⊎◌, List, [], ◌∷◌, ◌++◌, sym, refl, subst, inl, inr, arith}
+use Rattle.std.proofs.Common.{◌≡◌, ℕ, suc, ◌<◌, Bool, true, false, not, ◌&&◌, ◌||◌, ◌≢◌, ◌⊎◌, List, [], ◌∷◌, ◌++◌, refl, inl, inr, arith}
 use Rattle.std.proofs.lemmas.Bool.{and_parts, and_from, or_cases, or_left, or_right, not-true, not_from_false, eqb-true, eq-eqb}
 use Rattle.semantics.specs.declared.way.Way.TheVariants.{Absent, Input, Output}
 use Rattle.semantics.specs.Way.{is_input, is_output}
@@ -245,7 +245,7 @@ module _ {e : System} (wf : WellFormed e) where
   errs_illegal X [] (b ∷ u) f (v, k) x t i = cc
   errs_illegal X (a ∷ w) (b ∷ u) f {p} {q} (v, k) x t i =
       let same : b ≡ a = cc in
-      let (m, y, s) = next_enters X f x (subst (λ c. Runs e p (c ∷ u) q) same t) in
+      let (m, y, s) = next_enters X f x (rw same at t) in
       errs_later X a w (errs_illegal (next e X a) w u (next_stays X a) (v, cc) y s i)
 
   errs_missed : (X : ℕ → Bool) (w u : List ℕ) (a : ℕ) → Stays e X → {p q : ℕ} → Prefix (u ++ (a ∷ [])) w → e.way a ≡ Input → q < e.states → X p ≡ true → Runs e p u q
@@ -254,10 +254,10 @@ module _ {e : System} (wf : WellFormed e) where
   errs_missed X [] (b ∷ u) a f (v, k) j i x t n = cc
   errs_missed X (c ∷ w) [] a f {q = q} (v, k) j i x t n =
       let same : a ≡ c = cc in
-      errs_misses X c w (subst (λ z. e.way z ≡ Input) same j) (misses_make X c i (stays_run X f x t) (subst (λ z. accepts e q z ≡ false) same n))
+      errs_misses X c w (rw same at j) (misses_make X c i (stays_run X f x t) (rw same at n))
   errs_missed X (c ∷ w) (b ∷ u) a f {p} {q} (v, k) j i x t n =
       let same : b ≡ c = cc in
-      let (m, y, s) = next_enters X f x (subst (λ z. Runs e p (z ∷ u) q) same t) in
+      let (m, y, s) = next_enters X f x (rw same at t) in
       errs_later X c w (errs_missed (next e X c) w u a (next_stays X c) (v, cc) j i y s n)
 
 -- ---- words
@@ -283,7 +283,7 @@ module _ (e : System) (wf : WellFormed e) where
   unfolding opening
   opening_view {p} h =
       let (k, x, t) = reach_view wf (only e.start) p h in
-      subst (λ z. Runs e z [] p) (sym (only_view e.start k x)) t
+      rw (← only_view e.start k x) at t
 
   opening_has : opening e.start ≡ true
   unfolding opening

@@ -1,5 +1,5 @@
 -- The worked examples: what holds of them is shown by runs, and what does not by deciding it.
-use Rattle.std.proofs.Common.{◌≡◌, ℕ, ◌<◌, ◌≤◌, max, Bool, true, false, ◌&&◌, ◌||◌, eqb, ltb, ◌≢◌, ◌⊎◌, List, [], ◌∷◌, sym, refl, ◌∙◌, subst, inl, inr, arith}
+use Rattle.std.proofs.Common.{◌≡◌, ℕ, ◌<◌, ◌≤◌, max, Bool, true, false, ◌&&◌, ◌||◌, eqb, ltb, ◌≢◌, ◌⊎◌, List, [], ◌∷◌, sym, refl, ◌∙◌, inl, inr, arith}
 use mathlib.Core.Bool.{false≢true}
 use Rattle.std.proofs.lemmas.Bool.Decides.{nat_tests}
 use Rattle.std.proofs.lemmas.Bool.{both_ways}
@@ -99,7 +99,7 @@ module _ (a b : System) (wfa : WellFormed a) (start : a.start ≡ b.start) (ways
   runs_like (letter {p = p} {q = q} x n s t) = letter x n (fewer p x q s) (runs_like t)
 
   after_like : (w : List ℕ) {q : ℕ} → After a w q → After b w q
-  after_like w {q} t = subst (λ z. Runs b z w q) start (runs_like t)
+  after_like w {q} t = rw start at (runs_like t)
 
   missed_like : (p x : ℕ) → b.way x ≡ Input → accepts a p x ≡ false → accepts b p x ≡ false
   missed_like p x is n =
