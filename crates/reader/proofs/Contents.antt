@@ -8,6 +8,7 @@ use Rattle.std.proofs.lemmas.List.Elements.{recursion_from_All}
 use Rattle.std.proofs.lemmas.Bool.{cond_both, cases_eq, eq-eqb, ne_eqb}
 use Rattle.semantics.specs.declared.way.Way.{Way}
 use Rattle.semantics.specs.declared.way.Way.TheVariants.{Absent}
+use Rattle.semantics.proofs.Words.{all_map}
 use Rattle.reader.specs.declared.row.Row.{Row}
 use Rattle.reader.specs.declared.row.Step.{Step}
 use Rattle.reader.specs.Row.{unused, blank, way_of, error_at, listed, same_step, told, declared, fitting}
@@ -21,10 +22,6 @@ use Rattle.reader.proofs.Parts.{all_ways, all_steps, all_errors, WaysFit, EachSt
 all_zip : {X : Type 0} {P Q R : X → Type 0} → ((x : X) → P x → Q x → R x) → (xs : List X) → AllByRecursion P xs → AllByRecursion Q xs → AllByRecursion R xs
 all_zip f [] p q = tt
 all_zip f (x ∷ xs) p q = (f x p.0 q.0, all_zip f xs p.1 q.1)
-
-pub all_map : {X : Type 0} {P Q : X → Type 0} → ((x : X) → P x → Q x) → (xs : List X) → AllByRecursion P xs → AllByRecursion Q xs
-all_map f [] p = tt
-all_map f (x ∷ xs) p = (f x p.0, all_map f xs p.1)
 
 -- Actions ---------------------------------------------------------------------------------------------------------
 

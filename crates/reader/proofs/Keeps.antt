@@ -1,5 +1,5 @@
 -- Every record that is taken in keeps the facts of a table, and adds its bytes to what the content takes.
-use Rattle.std.proofs.Common.{◌≡◌, ℕ, ◌+◌, ◌-◌, ◌*◌, ◌<◌, ◌≤◌, Bool, true, false, cond, ◌≢◌, List, length, get_or, set, sym, refl, subst, arith, length-set, get_or-set_other}
+use Rattle.std.proofs.Common.{◌≡◌, ℕ, ◌+◌, ◌-◌, ◌*◌, ◌<◌, ◌≤◌, Bool, true, false, cond, ◌≢◌, List, length, get_or, set, refl, arith, length-set, get_or-set_other}
 use Rattle.std.proofs.lemmas.Bool.{both_ways}
 use Rattle.std.proofs.lemmas.Bool.Decides.{nat_tests}
 use Rattle.std.proofs.lemmas.Grind.{common_steps, get_or-set_at}
@@ -29,7 +29,7 @@ keeps_blank n s l u h =
     ((refl, refl, refl), (l, u, h, omega arith, (λ k b. absurd (omega arith)), (λ q e. absurd (both_ways _ (get_or_alike 64 q false) e))))
 
 pub kept-blank : (r : Row) (n s : ℕ) → r ≡ blank n s → 1 ≤ n → n ≤ 64 → s < n → Keeps r
-kept-blank r n s e l u h = subst Keeps (sym e) (keeps_blank n s l u h)
+kept-blank r n s e l u h = rw e (keeps_blank n s l u h)
 
 -- the way of the action that a row is given, and of the others
 pub way_new : (r : Row) (a : ℕ) (w : Way) → length r.ways ≡ 32 → 1 ≤ a → a ≤ 32 → way_of (with_way r a w) a ≡ w
@@ -48,11 +48,11 @@ keeps_error : (r : Row) (s : ℕ) → s < r.states → Keeps r → Keeps (with_e
 keeps_error r s h k = grind (arith, common_steps)
 
 pub entry_keeps : {r : Row} {stage : Stage} {kind : ℕ} {body : List ℕ} {r' : Row} {stage' : Stage} → Entry r stage kind body r' stage' → Keeps r → Keeps r'
-entry_keeps (is_head n s d k b l u h e g) keeps = subst Keeps (sym e) (keeps_blank n s l u h)
-entry_keeps {r} (is_action a w d k b l u dw new e g) keeps = subst Keeps (sym e) (keeps_way r a (way_from w) l u dw keeps)
-entry_keeps {r} (is_step s d k b f new room e g) keeps = subst Keeps (sym e) (keeps_step r s f room keeps)
-entry_keeps {r} (is_error s d k b h new e g) keeps = subst Keeps (sym e) (keeps_error r s h keeps)
-entry_keeps (is_end d k b e g) keeps = subst Keeps (sym e) keeps
+entry_keeps (is_head n s d k b l u h e g) keeps = rw e (keeps_blank n s l u h)
+entry_keeps {r} (is_action a w d k b l u dw new e g) keeps = rw e (keeps_way r a (way_from w) l u dw keeps)
+entry_keeps {r} (is_step s d k b f new room e g) keeps = rw e (keeps_step r s f room keeps)
+entry_keeps {r} (is_error s d k b h new e g) keeps = rw e (keeps_error r s h keeps)
+entry_keeps (is_end d k b e g) keeps = rw e keeps
 
 -- one element more passes
 count_set : {X : Type 0} (p : X → Bool) (xs : List X) (i : ℕ) (y d : X) → i < length xs → p (get_or xs i d) ≡ false → p y ≡ true → count_by p (set xs i y) ≡ count_by p xs + 1

@@ -2,6 +2,7 @@
 use Rattle.std.proofs.Common.{◌≡◌, ℕ, zero, suc, ◌+◌, ◌-◌, ◌<◌, ◌≤◌, true, false, ◌||◌, List, [], ◌∷◌, length, get_or, replicate, Ok, sym, refl, ap, ◌∙◌, arith, length-set}
 use Rattle.std.specs.List.{AllByRecursion}
 use Rattle.semantics.specs.declared.way.Way.TheVariants.{Absent}
+use Rattle.semantics.proofs.Words.{all_map}
 use Rattle.reader.specs.declared.row.Row.{Row}
 use Rattle.reader.specs.declared.row.Step.{Step}
 use Rattle.reader.specs.declared.stage.Stage.TheVariants.{Head}
@@ -13,7 +14,7 @@ use Rattle.reader.specs.Layout.{Action, Content, Once, way_in, fits, tabled, mem
 use Rattle.reader.proofs.Rows.{way_inside, get_or_alike}
 use Rattle.reader.proofs.Parts.{all_ways, all_steps, all_errors, table_told, follow_table}
 use Rattle.std.proofs.lemmas.List.Elements.{recursion_from_All}
-use Rattle.reader.proofs.Contents.{all_map, Held, Wide, Sized, ways_once, once_ways, ways_in, fresh-blank, steps_once, once_steps, untold_none, steps_placed, errors_once, once_errors, errors_in}
+use Rattle.reader.proofs.Contents.{Held, Wide, Sized, ways_once, once_ways, ways_in, fresh-blank, steps_once, once_steps, untold_none, steps_placed, errors_once, once_errors, errors_in}
 
 -- what the ways, the steps and the errors of a row leave as it was
 abbrev Sides : Row → Row → Type 0

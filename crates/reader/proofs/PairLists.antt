@@ -1,5 +1,5 @@
 -- Bytes are read as pairs exactly where their records tell them.
-use Rattle.std.proofs.Common.{◌≡◌, ℕ, ◌+◌, ◌<◌, ◌≤◌, ltb, List, [], ◌∷◌, ◌++◌, length, Ok, Err, Result, sym, refl, ap, ◌∙◌, subst, arith}
+use Rattle.std.proofs.Common.{◌≡◌, ℕ, ◌+◌, ◌<◌, ◌≤◌, ltb, List, [], ◌∷◌, ◌++◌, length, Ok, Err, Result, sym, refl, ap, ◌∙◌, arith}
 use Rattle.std.proofs.lemmas.List.{append-nil, append_assoc, length_push}
 use Rattle.std.proofs.lemmas.Bool.{cond_both, ltb-true, ltb-false}
 use Rattle.std.proofs.lemmas.Bool.Decides.{nat_tests}
@@ -74,8 +74,8 @@ told_gather xs more qs at ts few = absurd ts
 pub pairs_laid : (bytes : List ℕ) (ps : List Pair) → pairs_in bytes ≡ Ok ps → PairsLaid bytes ps
 unfolding pairs_in PairsLaid
 pairs_laid bytes ps e =
-    let g = subst (Gathered [] 0 (records bytes)) e (gathered (records bytes) [] 0 (omega arith)) in
-    (g.0, g.2, subst (AllTell g.0) (sym g.4) g.3, g.5)
+    let (xs, more, is, told, same, few) = rw e at (gathered (records bytes) [] 0 (omega arith)) in
+    (xs, is, rw same told, few)
 
 pub laid_pairs : (bytes : List ℕ) (ps : List Pair) → PairsLaid bytes ps → pairs_in bytes ≡ Ok ps
 unfolding pairs_in PairsLaid
@@ -87,5 +87,5 @@ stands_behind f xs rest b = grind arith
 pub pairs_break : (bytes : List ℕ) (f : evidence.EvidenceFault) → pairs_in bytes ≡ Err f → PairsBreak bytes f
 unfolding pairs_in PairsBreak
 pairs_break bytes f e =
-    let g = subst (Gathered [] 0 (records bytes)) e (gathered (records bytes) [] 0 (omega arith)) in
-    (g.0, g.1, g.2, g.3, g.4, stands_behind f g.0 g.2 g.5)
+    let (xs, ps, rest, is, told, stands) = rw e at (gathered (records bytes) [] 0 (omega arith)) in
+    (xs, ps, rest, is, told, stands_behind f xs rest stands)

@@ -1,5 +1,5 @@
 -- Bytes are read as a run exactly where they are one record that tells it.
-use Rattle.std.proofs.Common.{◌≡◌, ℕ, zero, suc, ◌+◌, ◌*◌, ◌/◌, ◌%◌, ◌<◌, ◌≤◌, cond, eqb, leb, List, [], ◌∷◌, length, Some, None, Ok, Err, Option, Result, sym, refl, ap, ◌∙◌, subst, inl, inr, ⊎_elim, arith}
+use Rattle.std.proofs.Common.{◌≡◌, ℕ, zero, suc, ◌+◌, ◌*◌, ◌/◌, ◌%◌, ◌<◌, ◌≤◌, cond, eqb, leb, List, [], ◌∷◌, length, Some, None, Ok, Err, Option, Result, sym, refl, ap, ◌∙◌, inl, inr, ⊎_elim, arith}
 use Rattle.std.proofs.lemmas.Bool.{cases_lt, cond_both, eqb-true, eqb-false, leb-true, leb-false}
 use Rattle.std.proofs.lemmas.Bool.Decides.{nat_tests}
 use Rattle.reader.specs.declared.fault.Fault.TheVariants.{Kind, Length, Trailing}
@@ -83,11 +83,11 @@ run_read bytes = go (front bytes) refl
 
 pub run_laid : (bytes : List ℕ) (ending : Ending) (ms : List Move) → run_in bytes ≡ Ok (ending, ms) → RunLaid bytes ending ms
 unfolding RunLaid
-run_laid bytes ending ms e = subst (RunRead (records bytes)) e (run_read bytes)
+run_laid bytes ending ms e = rw e at (run_read bytes)
 
 pub run_breaks : (bytes : List ℕ) (f : EvidenceFault) → run_in bytes ≡ Err f → RunBreaks bytes f
 unfolding RunBreaks
-run_breaks bytes f e = subst (RunRead (records bytes)) e (run_read bytes)
+run_breaks bytes f e = rw e at (run_read bytes)
 
 pub laid_run : (bytes : List ℕ) (ending : Ending) (ms : List Move) → RunLaid bytes ending ms → run_in bytes ≡ Ok (ending, ms)
 unfolding run_in RunLaid
