@@ -1,20 +1,19 @@
 -- A refusal points at the first record that breaks the layout.
-use Rattle.std.proofs.Common.{◌≡◌, ℕ, ◌+◌, Bool, true, false, cond, eqb, ltb, ◌⊎◌, List, [], ◌∷◌, ◌++◌, Ok, Err, Result, sym, refl, ap, ◌∙◌, subst, inl, inr, arith}
-use Rattle.std.proofs.lemmas.Bool.{cases_Bool, false≢true}
+use Rattle.std.proofs.Common.{◌≡◌, ℕ, ◌+◌, Bool, true, false, cond, ◌⊎◌, List, [], ◌∷◌, ◌++◌, Ok, Err, Result, sym, refl, ap, ◌∙◌, inl, inr, arith}
+use Rattle.std.proofs.lemmas.Bool.{cases_Bool}
 use Rattle.reader.specs.declared.fault.Fault as faults
 use Rattle.reader.specs.declared.fault.Fault.TheVariants.{Cut, Kind, Length, Value, Repeated, Overfull, Trailing}
 use Rattle.reader.specs.declared.row.Row.{Row}
-use Rattle.reader.specs.declared.row.Step.{Step}
 use Rattle.reader.specs.declared.stage.Stage.{Stage}
 use Rattle.reader.specs.declared.stage.Stage.TheVariants.{Head, Actions, Steps, Errors, Closed}
 use Rattle.reader.specs.Fault.{place}
 use Rattle.reader.specs.Record.{Records, none, cut, next, records, size_of, followed, sizes}
-use Rattle.reader.specs.Row.{blank, way_of, error_at, listed, told, declared, fitting}
-use Rattle.reader.specs.Draft.{with_way, with_step, with_error, way_from, headed, acted, stepped, failed, ended, due, staged, taken, entered, closed, follow}
+use Rattle.reader.specs.Row.{blank}
+use Rattle.reader.specs.Draft.{headed, acted, stepped, failed, ended, staged, entered, closed, follow}
 use Rattle.reader.specs.Table.{opened}
 use Rattle.reader.specs.Layout.{Begins, Stray, Stands, Breaks, closing}
-use Rattle.reader.proofs.Outcomes.{err_ok, err_same}
-use Rattle.reader.proofs.Follows.{follow-none, follow-cut, follow_refused, follow_more, follow_done, follow_behind_cut, follow_behind_next}
+use Rattle.reader.proofs.Outcomes.{err_ok}
+use Rattle.reader.proofs.Follows.{follow_refused, follow_more, follow_done}
 use Rattle.reader.proofs.Parts.{follow_closing, follow_table}
 use Rattle.reader.proofs.Layouts.{follow_lays, lays_follow}
 
@@ -34,58 +33,30 @@ Blames at (Ok t) = Unit {0}
 Blames at (Err f) = (place f ≡ at) × (inner f ≡ true)
 
 blames_cond : {T : Type 0} (at : ℕ) (b : Bool) (x y : Result T faults.Fault) → Blames at x → Blames at y → Blames at (cond b x y)
-blames_cond at true x y p q = p
-blames_cond at false x y p q = q
+blames_cond at b x y p q = grind arith
 
 blames_staged : (at : ℕ) (stage : Stage) (x : Result Row faults.Fault) → Blames at x → Blames at (staged stage x)
-blames_staged at stage (Ok r) p = tt
-blames_staged at stage (Err f) p = p
+blames_staged at stage x p = grind arith
 
 module _ (r : Row) (at : ℕ) where
   blames_head : (body : List ℕ) → Blames at (headed at body)
-  blames_head [] = (refl, refl)
-  blames_head (n ∷ []) = (refl, refl)
-  blames_head (n ∷ s ∷ []) = blames_cond at _ (Ok (blank n s)) (Err (Value at)) tt (refl, refl)
-  blames_head (n ∷ s ∷ x ∷ xs) = (refl, refl)
+  blames_head body = grind arith
 
   blames_action : (body : List ℕ) → Blames at (acted r at body)
-  blames_action [] = (refl, refl)
-  blames_action (a ∷ []) = (refl, refl)
-  blames_action (a ∷ w ∷ []) =
-      blames_cond at _ (cond (declared (way_of r a)) (Err (Repeated at)) (Ok (with_way r a (way_from w)))) (Err (Value at))
-      (blames_cond at (declared (way_of r a)) (Err (Repeated at)) (Ok (with_way r a (way_from w))) (refl, refl) tt) (refl, refl)
-  blames_action (a ∷ w ∷ x ∷ xs) = (refl, refl)
+  blames_action body = grind arith
 
   blames_step : (body : List ℕ) → Blames at (stepped r at body)
-  blames_step [] = (refl, refl)
-  blames_step (f ∷ []) = (refl, refl)
-  blames_step (f ∷ a ∷ []) = (refl, refl)
-  blames_step (f ∷ a ∷ t ∷ []) =
-      let s : Step = record { from = f; action = a; to = t } in
-      blames_cond at (fitting r s) (cond (told s (listed r)) (Err (Repeated at)) (cond (ltb r.count 256) (Ok (with_step r s)) (Err (Overfull at)))) (Err (Value at))
-      (blames_cond at (told s (listed r)) (Err (Repeated at)) (cond (ltb r.count 256) (Ok (with_step r s)) (Err (Overfull at))) (refl, refl)
-      (blames_cond at (ltb r.count 256) (Ok (with_step r s)) (Err (Overfull at)) tt (refl, refl))) (refl, refl)
-  blames_step (f ∷ a ∷ t ∷ x ∷ xs) = (refl, refl)
+  blames_step body = grind arith
 
   blames_error : (body : List ℕ) → Blames at (failed r at body)
-  blames_error [] = (refl, refl)
-  blames_error (s ∷ []) =
-      blames_cond at (ltb s r.states) (cond (error_at r s) (Err (Repeated at)) (Ok (with_error r s))) (Err (Value at))
-      (blames_cond at (error_at r s) (Err (Repeated at)) (Ok (with_error r s)) (refl, refl) tt) (refl, refl)
-  blames_error (s ∷ x ∷ xs) = (refl, refl)
+  blames_error body = grind arith
 
   blames_end : (body : List ℕ) → Blames at (ended r at body)
-  blames_end [] = tt
-  blames_end (x ∷ xs) = (refl, refl)
+  blames_end body = grind arith
 
   blames_entered : (stage : Stage) (kind : ℕ) (body : List ℕ) → Blames at (entered r stage at kind body)
   blames_entered stage kind body =
-      blames_cond at (due stage kind) (taken r at kind body) (Err (Kind at))
-      (blames_cond at (eqb kind 1) (staged Actions (headed at body)) _ (blames_staged at Actions (headed at body) (blames_head body))
-      (blames_cond at (eqb kind 2) (staged Actions (acted r at body)) _ (blames_staged at Actions (acted r at body) (blames_action body))
-      (blames_cond at (eqb kind 3) (staged Steps (stepped r at body)) _ (blames_staged at Steps (stepped r at body) (blames_step body))
-      (blames_cond at (eqb kind 4) (staged Errors (failed r at body)) (staged Closed (ended r at body)) (blames_staged at Errors (failed r at body) (blames_error body)) (blames_staged at Closed (ended r at body) (blames_end body))))))
-      (refl, refl)
+      search (blames_cond, blames_staged, blames_head, blames_action, blames_step, blames_error, blames_end) depth 9
 
 -- the records in front lead from one draft to another
 data Reach : Row → Stage → ℕ → List (ℕ × List ℕ) → Row → Stage → Type 0 where
@@ -94,10 +65,11 @@ data Reach : Row → Stage → ℕ → List (ℕ × List ℕ) → Row → Stage 
       → closed stage ≡ false → entered r stage at kind body ≡ Ok t → Reach t.0 t.1 (at + size_of body) front r' stage' → Reach r stage at ((kind, body) ∷ front) r' stage'
 
 reach_follow : {r : Row} {stage : Stage} {at : ℕ} {front : List (ℕ × List ℕ)} {r' : Row} {stage' : Stage} → Reach r stage at front r' stage' → (more : Records) → follow r stage at (followed front more) ≡ follow r' stage' (at + sizes front) more
-reach_follow (here r stage at) more = let e : at ≡ at + 0 = omega arith in ap (λ a. follow r stage a more) e
-reach_follow {r} {stage} {at} (on {kind = kind} {body = body} {front = front} {r' = r'} {stage' = stage'} t going e further) more =
-    let sum : (at + size_of body) + sizes front ≡ at + (size_of body + sizes front) = omega arith in
-    follow_more r stage at kind body (followed front more) t going e ∙ reach_follow further more ∙ ap (λ a. follow r' stage' a more) sum
+reach_follow (here r stage at) more = grind arith
+reach_follow {r} {stage} {at} (on {kind = kind} {body = body} {front = front} t going e further) more =
+    let first = follow_more r stage at kind body (followed front more) t going e in
+    let rest = reach_follow further more in
+    grind arith
 
 -- why following stops with a fault
 data Stops (r : Row) (stage : Stage) (at : ℕ) (rest : Records) (f : faults.Fault) : Type 0 where
@@ -110,35 +82,20 @@ Stopped r stage at rs f =
     (front : List (ℕ × List ℕ)) × (rest : Records) × (r' : Row) × (stage' : Stage) × (rs ≡ followed front rest) × Reach r stage at front r' stage' × Stops r' stage' (at + sizes front) rest f
 
 stops_at_once : (r : Row) (stage : Stage) (at : ℕ) (rs : Records) (f : faults.Fault) → Stops r stage at rs f → Stopped r stage at rs f
-stops_at_once r stage at rs f s = let e : at ≡ at + 0 = omega arith in ([], rs, r, stage, refl, here r stage at, subst (λ a. Stops r stage a rs f) e s)
-
-is_none : Records → Bool
-is_none none = true
-is_none cut = false
-is_none (next kind body rest) = false
-
-pub cut_some : cut ≡ none → ⊥
-unfolding is_none
-cut_some e = false≢true (ap is_none e)
-
-pub next_some : {kind : ℕ} {body : List ℕ} {rest : Records} → next kind body rest ≡ none → ⊥
-unfolding is_none
-next_some e = false≢true (ap is_none e)
+stops_at_once r stage at rs f s = let same : at + 0 ≡ at = omega arith in ([], rs, r, stage, refl, here r stage at, rw same s)
 
 stopped : (rs : Records) (r : Row) (stage : Stage) (at : ℕ) (f : faults.Fault) → follow r stage at rs ≡ Err f → Stopped r stage at rs f
+unfolding follow
 stopped none r stage at f p =
-    elim (cases_Bool (closed stage)) [
-      | inl shut ↦ absurd (err_ok (sym p ∙ follow_done r stage at shut))
-      | inr going ↦ stops_at_once r stage at none f (short going (inl refl) (err_same (sym p ∙ follow-none r stage at going)))
-    ]
+    elim (cases_Bool (closed stage)) [ inl shut ↦ cc | inr going ↦ stops_at_once r stage at none f (short going (inl refl) (cc)) ]
 stopped cut r stage at f p =
     elim (cases_Bool (closed stage)) [
-      | inl shut ↦ stops_at_once r stage at cut f (long shut cut_some (err_same (sym p ∙ follow_behind_cut r stage at shut)))
-      | inr going ↦ stops_at_once r stage at cut f (short going (inr refl) (err_same (sym p ∙ follow-cut r stage at going)))
+      | inl shut ↦ stops_at_once r stage at cut f (long shut (λ e. cc) (cc))
+      | inr going ↦ stops_at_once r stage at cut f (short going (inr refl) (cc))
     ]
 stopped (next kind body rest) r stage at f p =
     elim (cases_Bool (closed stage)) [
-      | inl shut ↦ stops_at_once r stage at (next kind body rest) f (long shut next_some (err_same (sym p ∙ follow_behind_next r stage at kind body rest shut)))
+      | inl shut ↦ stops_at_once r stage at (next kind body rest) f (long shut (λ e. cc) (cc))
       | inr going ↦ go (entered r stage at kind body) refl going (stopped rest)
     ]
   where
@@ -146,11 +103,10 @@ stopped (next kind body rest) r stage at f p =
         → ((x : Row) (y : Stage) (z : ℕ) (g : faults.Fault) → follow x y z rest ≡ Err g → Stopped x y z rest g) → Stopped r stage at (next kind body rest) f
     go (Ok t) e going further =
         let s = further t.0 t.1 (at + size_of body) f (sym (follow_more r stage at kind body rest t going e) ∙ p) in
-        let sum : (at + size_of body) + sizes s.0 ≡ at + (size_of body + sizes s.0) = omega arith in
-        ((kind, body) ∷ s.0, s.1, s.2, s.3, ap (next kind body) s.4, on t going e s.5, subst (λ a. Stops s.2 s.3 a s.1 f) sum s.6)
+        let sum : at + (size_of body + sizes s.0) ≡ (at + size_of body) + sizes s.0 = omega arith in
+        ((kind, body) ∷ s.0, s.1, s.2, s.3, ap (next kind body) s.4, on t going e s.5, rw sum s.6)
     go (Err g) e going further =
-        let same : g ≡ f = err_same (sym (follow_refused r stage at kind body rest g going e) ∙ p) in
-        stops_at_once r stage at (next kind body rest) f (bad kind body rest going refl (e ∙ ap Err same))
+        stops_at_once r stage at (next kind body rest) f (bad kind body rest going refl (cc))
 
 -- every draft can be completed
 completes : (r : Row) (stage : Stage) (at : ℕ) → (more : Records) × (r' : Row) × (follow r stage at more ≡ Ok r')
@@ -178,29 +134,19 @@ reach_stray {front} {r} {stage} kind body f reach going e b =
     err_ok (sym here_again ∙ opens)
 
 stray_stands : (f : faults.Fault) (front : List (ℕ × List ℕ)) (rest : Records) → inner f ≡ true → Stray front rest → Stands f front rest
-stray_stands (Cut at) front rest i s = absurd (false≢true i)
-stray_stands (Kind at) front rest i s = s
-stray_stands (Length at) front rest i s = s
-stray_stands (Value at) front rest i s = s
-stray_stands (Repeated at) front rest i s = s
-stray_stands (Overfull at) front rest i s = s
-stray_stands (Trailing at) front rest i s = absurd (false≢true i)
+stray_stands f front rest i s = grind arith
 
 pub opened_breaks : (bytes : List ℕ) (f : faults.Fault) → opened bytes ≡ Err f → Breaks bytes f
 unfolding opened Breaks
 opened_breaks bytes f p =
-    let s = stopped (records bytes) (blank 1 0) Head 0 f p in
-    go s.0 s.1 s.2 s.3 s.4 s.5 s.6
+    let (front, rest, r, stage, cutting, reach, stops) = stopped (records bytes) (blank 1 0) Head 0 f p in
+    go front rest r stage cutting reach stops
   where
     go : (front : List (ℕ × List ℕ)) (rest : Records) (r : Row) (stage : Stage) → records bytes ≡ followed front rest → Reach (blank 1 0) Head 0 front r stage → Stops r stage (0 + sizes front) rest f → Breaks bytes f
-    go front rest r stage cutting reach (short going why e) =
-        let at : sizes front ≡ 0 + sizes front = omega arith in
-        (front, rest, cutting, at ∙ sym (ap place e), reach_begins reach, subst (λ g. Stands g front rest) (sym e) why)
+    go front rest r stage cutting reach (short going why e) = (front, rest, cutting, grind arith, reach_begins reach, rw e why)
     go front rest r stage cutting reach (bad kind body more going is e) =
-        let at : sizes front ≡ 0 + sizes front = omega arith in
-        let blame = subst (Blames (0 + sizes front)) e (blames_entered r (0 + sizes front) stage kind body) in
-        (front, rest, cutting, at ∙ sym blame.0, reach_begins reach, stray_stands f front rest blame.1 (kind, body, more, is, reach_stray kind body f reach going e))
+        let (there, in_record) = rw e at (blames_entered r (0 + sizes front) stage kind body) in
+        (front, rest, cutting, omega arith, reach_begins reach, stray_stands f front rest in_record (kind, body, more, is, reach_stray kind body f reach going e))
     go front rest r stage cutting reach (long shut some e) =
-        let at : sizes front ≡ 0 + sizes front = omega arith in
         let whole = follow_lays (followed front none) r (reach_follow reach none ∙ follow_done r stage (0 + sizes front) shut) in
-        (front, rest, cutting, at ∙ sym (ap place e), reach_begins reach, subst (λ g. Stands g front rest) (sym e) ((r, whole), some))
+        (front, rest, cutting, grind arith, reach_begins reach, rw e ((r, whole), some))

@@ -1,47 +1,32 @@
 -- Bytes are read as a run exactly where they are one record that tells it.
-use Rattle.std.proofs.Common.{◌≡◌, ℕ, zero, suc, ◌+◌, ◌*◌, ◌/◌, ◌%◌, ◌<◌, ◌≤◌, cond, eqb, leb, MatchResult, List, [], ◌∷◌, length, Some, None, Ok, Err, Option, Result, sym, refl, ap, ◌∙◌, subst, inl, inr, ⊎_elim, arith}
-use Rattle.std.proofs.lemmas.Bool.{cases_lt, cond-true, cond_both, eqb-true, eqb-false, eq-eqb, leb-true, leb-false, le-leb}
+use Rattle.std.proofs.Common.{◌≡◌, ℕ, zero, suc, ◌+◌, ◌*◌, ◌/◌, ◌%◌, ◌<◌, ◌≤◌, cond, eqb, leb, MatchResult, List, [], ◌∷◌, length, Some, None, Ok, Err, Option, Result, sym, refl, ap, ◌∙◌, inl, inr, ⊎_elim, arith}
+use Rattle.std.proofs.lemmas.Bool.{cases_lt, cond_both, eqb-true, eqb-false, leb-true, leb-false}
+use Rattle.std.proofs.lemmas.Bool.Decides.{nat_tests}
 use Rattle.reader.specs.declared.fault.Fault.TheVariants.{Kind, Length, Trailing}
 use Rattle.reader.specs.declared.evidence.EvidenceFault.{EvidenceFault}
 use Rattle.reader.specs.declared.evidence.EvidenceFault.TheVariants.{Record, Moves}
 use Rattle.reader.specs.declared.run.Ending.{Ending}
 use Rattle.reader.specs.declared.run.Move.{Move}
 use Rattle.reader.specs.declared.run.Run.{Run}
-use Rattle.reader.specs.Record.{Records, none, cut, next, front, records}
+use Rattle.reader.specs.Record.{Records, none, next, front, records}
 use Rattle.reader.specs.Run.{ending_of, moves_in, Told, alone, moved, embodied, recorded, run_in, outcome}
 use Rattle.reader.specs.Evidence.{MovesTold, RunLaid, RunStands, RunBreaks}
-use Rattle.reader.proofs.Records.{records-none, records-cut, records-next}
-use Rattle.reader.proofs.Breaks.{cut_some, next_some}
-
--- records of some bytes are some
-records-some : (bytes : List ℕ) → 0 < length bytes → records bytes ≡ none → ⊥
-records-some bytes some e = go (front bytes) refl
-  where
-    go : (o : Option (ℕ × List ℕ × List ℕ)) → front bytes ≡ o → ⊥
-    go None f = cut_some (sym (records-cut bytes some f) ∙ e)
-    go (Some t) f = next_some (sym (records-next bytes t f) ∙ e)
+use Rattle.reader.proofs.Records.{records-none, records-some, records-cut, records-next}
 
 records_empty : (bytes : List ℕ) → records bytes ≡ none → length bytes ≡ 0
-records_empty bytes e = ⊎_elim (λ (some : 0 < length bytes). absurd (records-some bytes some e)) (λ (h : length bytes ≤ 0). omega arith) (cases_lt 0 (length bytes))
+records_empty bytes e = grind (arith, cases_lt 0 (length bytes), records-some bytes)
 
 -- bytes for n moves tell n moves
 moves_told : (n : ℕ) (bytes : List ℕ) → length bytes ≡ 3 * n → MovesTold bytes (moves_in bytes) × (length (moves_in bytes) ≡ n)
 moves_told zero [] h = (refl, refl)
-moves_told zero (a ∷ bytes) h = absurd (omega arith)
-moves_told (suc n) [] h = absurd (omega arith)
-moves_told (suc n) (a ∷ []) h = absurd (omega arith)
-moves_told (suc n) (a ∷ b ∷ []) h = absurd (omega arith)
 moves_told (suc n) (a ∷ b ∷ c ∷ bytes) h =
     let more = moves_told n bytes (omega arith) in
     ((bytes, b, c, refl, refl, more.0), ap suc more.1)
+moves_told n bytes h = absurd (omega arith)
 
 told_moves : (ms : List Move) (bytes : List ℕ) → MovesTold bytes ms → (moves_in bytes ≡ ms) × (length bytes ≡ 3 * length ms)
-told_moves [] bytes e = (ap moves_in e, ap length e)
-told_moves (m ∷ ms) bytes (more, low, high, e, s, t) =
-    let rest = told_moves ms more t in
-    let long = ap length e in
-    let many = rest.1 in
-    (ap moves_in e ∙ (λ i. record { action = m.action; state = sym s i } ∷ rest.0 i), omega arith)
+told_moves [] bytes e = grind arith
+told_moves (m ∷ ms) bytes (more, low, high, e, s, t) = grind (arith, told_moves ms more t)
 
 -- what a result says of the records
 abbrev RunRead : Records → Result Told EvidenceFault → Type 0
@@ -99,25 +84,18 @@ run_read bytes = go (front bytes) refl
 
 pub run_laid : (bytes : List ℕ) (ending : Ending) (ms : List Move) → run_in bytes ≡ Ok (ending, ms) → RunLaid bytes ending ms
 unfolding RunLaid
-run_laid bytes ending ms e = subst (RunRead (records bytes)) e (run_read bytes)
+run_laid bytes ending ms e = rw e at (run_read bytes)
 
 pub run_breaks : (bytes : List ℕ) (f : EvidenceFault) → run_in bytes ≡ Err f → RunBreaks bytes f
 unfolding RunBreaks
-run_breaks bytes f e = subst (RunRead (records bytes)) e (run_read bytes)
+run_breaks bytes f e = rw e at (run_read bytes)
 
 pub laid_run : (bytes : List ℕ) (ending : Ending) (ms : List Move) → RunLaid bytes ending ms → run_in bytes ≡ Ok (ending, ms)
 unfolding run_in RunLaid
 laid_run bytes ending ms (e, i, moves, is, told, ts, few) = go (front bytes) refl
   where
     go : (o : Option (ℕ × List ℕ × List ℕ)) → front bytes ≡ o → recorded o ≡ Ok (ending, ms)
-    go None f =
-        ⊎_elim
-        (λ (some : 0 < length bytes). absurd (apart (sym (records-cut bytes some f) ∙ is)))
-        (λ (h : length bytes ≤ 0). absurd (next_some (sym is ∙ records-none bytes (omega arith))))
-        (cases_lt 0 (length bytes))
-      where
-        apart : cut ≡ next 18 (e ∷ i ∷ moves) none → ⊥
-        apart p = let z : ◌≡◌ {A = ℕ} 0 1 = cc in omega arith
+    go None f = absurd (grind (arith, cases_lt 0 (length bytes), records-none, records-cut))
     go (Some t) f =
         let same = sym (records-next bytes t f) ∙ is in
         let kind_is : t.0 ≡ 18 = cc same in
@@ -126,13 +104,7 @@ laid_run bytes ending ms (e, i, moves, is, told, ts, few) = go (front bytes) ref
         let empty = records_empty t.2 rest_is in
         let m = told_moves ms moves ts in
         let many = m.1 in
-        cond-true (eqb t.0 18) (embodied t.1 t.2) (Err (Record (Kind 0))) (eq-eqb t.0 18 kind_is)
-        ∙ ap (λ b. embodied b t.2) body_is
-        ∙ cond-true (eqb (length moves % 3) 0) _ (Err (Record (Length 0))) (eq-eqb (length moves % 3) 0 (omega arith))
-        ∙ cond-true (leb (length moves / 3) 4096) _ (Err (Moves (length moves / 3))) (le-leb (length moves / 3) 4096 (omega arith))
-        ∙ ap (alone moves t.2) told
-        ∙ cond-true (eqb (length t.2) 0) _ (Err (Record (Trailing (6 + length moves)))) (eq-eqb (length t.2) 0 empty)
-        ∙ ap (λ xs. Ok (ending, xs)) m.0
+        rw (kind_is, body_is) (grind (arith, nat_tests))
 
 -- what an answer says of the bytes
 pub run_told : (bytes : List ℕ) (r : Result Run EvidenceFault) → outcome r ≡ run_in bytes → MatchResult r (λ run. RunLaid bytes run.ending run.moves) (λ f. RunBreaks bytes f)

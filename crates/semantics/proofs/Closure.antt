@@ -1,6 +1,5 @@
 -- Sets of numbers, and that a set grown as often as there are numbers is closed.
-use Rattle.std.proofs.Common.{◌≡◌, ℕ, zero, suc, ◌<◌, ◌≤◌, Bool, true, false, cond, not, ◌&&◌, ◌⊎◌, sym, refl, ap, ◌∙◌, inl, inr, arith}
-use mathlib.Core.Bool.{false≢true}
+use Rattle.std.proofs.Common.{◌≡◌, ℕ, zero, suc, ◌<◌, ◌≤◌, Bool, true, false, cond, not, ◌&&◌, ◌⊎◌, inl, inr, arith}
 use Rattle.std.proofs.lemmas.Bool.{and_parts, and_from, or_cases, or_left, or_right, not-true, not_from_false, both_ways, cases_Bool, cases_eq}
 use Rattle.semantics.specs.Deciding.{meets, grown, grown_by, closure}
 use Rattle.semantics.proofs.Search.{any_view, any_make}
@@ -22,61 +21,31 @@ count : (ℕ → Bool) → ℕ → ℕ
 count f zero = zero
 count f (suc n) = cond (f n) (suc (count f n)) (count f n)
 
--- one more number, of a set and of a larger one
-bump : (b c : Bool) (m k : ℕ) → (b ≡ true → c ≡ true) → m ≤ k → cond b (suc m) m ≤ cond c (suc k) k
-bump true true m k h l = omega arith
-bump true false m k h l = absurd (false≢true (h refl))
-bump false true m k h l = omega arith
-bump false false m k h l = l
-
--- the same where the larger one is ahead already, and where it gets ahead
-stay_ahead : (b c : Bool) (m k : ℕ) → (b ≡ true → c ≡ true) → suc m ≤ k → suc (cond b (suc m) m) ≤ cond c (suc k) k
-stay_ahead true true m k h l = omega arith
-stay_ahead true false m k h l = absurd (false≢true (h refl))
-stay_ahead false true m k h l = omega arith
-stay_ahead false false m k h l = l
-
-get_ahead : (b c : Bool) (m k : ℕ) → b ≡ false → c ≡ true → m ≤ k → suc (cond b (suc m) m) ≤ cond c (suc k) k
-get_ahead true c m k h l i = absurd (false≢true (sym h))
-get_ahead false true m k h l i = omega arith
-get_ahead false false m k h l i = absurd (false≢true l)
-
 count_le : (f g : ℕ → Bool) (n : ℕ) → ((q : ℕ) → f q ≡ true → g q ≡ true) → count f n ≤ count g n
 unfolding count
 count_le f g zero h = omega arith
-count_le f g (suc n) h = bump (f n) (g n) (count f n) (count g n) (h n) (count_le f g n h)
+count_le f g (suc n) h = grind (arith, h n, count_le f g n h)
 
 count_more : (f g : ℕ → Bool) (n q : ℕ) → ((q : ℕ) → f q ≡ true → g q ≡ true) → q < n → f q ≡ false → g q ≡ true → suc (count f n) ≤ count g n
 unfolding count
 count_more f g zero q h l x y = absurd (omega arith)
 count_more f g (suc n) q h l x y =
     elim (cases_eq q n) [
-      | inl e ↦ get_ahead (f n) (g n) (count f n) (count g n) (ap f (sym e) ∙ x) (ap g (sym e) ∙ y) (count_le f g n h)
-      | inr k ↦ stay_ahead (f n) (g n) (count f n) (count g n) (h n) (count_more f g n q h (omega arith) x y)
+      | inl e ↦ grind (arith, count_le f g n h)
+      | inr k ↦ grind (arith, h n, count_more f g n q h (omega arith) x y)
     ]
-
-at_most : (b : Bool) (m n : ℕ) → m ≤ n → cond b (suc m) m ≤ suc n
-at_most true m n h = omega arith
-at_most false m n h = omega arith
 
 count_most : (f : ℕ → Bool) (n : ℕ) → count f n ≤ n
 unfolding count
 count_most f zero = omega arith
-count_most f (suc n) = at_most (f n) (count f n) n (count_most f n)
-
-full_here : (b : Bool) (m n : ℕ) → m ≤ n → suc n ≤ cond b (suc m) m → (b ≡ true) × (n ≤ m)
-full_here true m n h l = (refl, omega arith)
-full_here false m n h l = absurd (omega arith)
+count_most f (suc n) = grind (arith, count_most f n)
 
 count_full : (f : ℕ → Bool) (n : ℕ) → n ≤ count f n → (q : ℕ) → q < n → f q ≡ true
 unfolding count
 count_full f zero h q l = absurd (omega arith)
 count_full f (suc n) h q l =
-    let (b, k) = full_here (f n) (count f n) n (count_most f n) h in
-    elim (cases_eq q n) [
-      | inl e ↦ ap f e ∙ b
-      | inr i ↦ count_full f n k q (omega arith)
-    ]
+    let most = count_most f n in
+    elim (cases_eq q n) [ inl e ↦ grind arith | inr i ↦ count_full f n (grind arith) q (omega arith) ]
 
 -- ---- closures
 

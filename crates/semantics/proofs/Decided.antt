@@ -1,5 +1,5 @@
 -- The sets of states are what runs say, and words are decided along them.
-use Rattle.std.proofs.Common.{◌≡◌, ℕ, suc, ◌<◌, Bool, true, false, not, ◌&&◌, ◌||◌, ◌≢◌, ◌⊎◌, List, [], ◌∷◌, ◌++◌, sym, refl, ap, subst, inl, inr, arith}
+use Rattle.std.proofs.Common.{◌≡◌, ℕ, suc, ◌<◌, Bool, true, false, not, ◌&&◌, ◌||◌, ◌≢◌, ◌⊎◌, List, [], ◌∷◌, ◌++◌, refl, inl, inr, arith}
 use Rattle.std.proofs.lemmas.Bool.{and_parts, and_from, or_cases, or_left, or_right, not-true, not_from_false, eqb-true, eq-eqb}
 use Rattle.semantics.specs.declared.way.Way.TheVariants.{Absent, Input, Output}
 use Rattle.semantics.specs.Way.{is_input, is_output}
@@ -8,8 +8,8 @@ use Rattle.semantics.specs.Trace.{Runs, here, quiet, letter, After, Word, Output
 use Rattle.semantics.specs.Deciding.{only, moved, reach, next, walk, after, local, illegal, fails, misses, is_word, is_trace, errs, is_error_trace}
 use Rattle.semantics.specs.Theorems.{SetsAreExact, ReachKeepsItsRules, WordsAreDecided}
 use Rattle.semantics.proofs.Search.{same_test, any_view, any_make}
-use Rattle.semantics.proofs.Ways.{input_view, output_view, present_view, present_make, output_present, present_nonzero}
-use Rattle.semantics.proofs.Words.{prefix_cons, prefix_refl, middle≢nil}
+use Rattle.semantics.proofs.Ways.{present_view, present_make, output_present, present_nonzero}
+use Rattle.semantics.proofs.Words.{prefix_cons, prefix_refl}
 use Rattle.semantics.proofs.Runs.{runs_append, runs_letter, runs_in, runs_from, runs_word}
 use Rattle.semantics.proofs.Errors.{Cause, cause, error_trace}
 use Rattle.semantics.proofs.Closure.{meets_view, meets_make, Steps, stay, go_on, Inside, closure_view, closure_on, closure_has}
@@ -102,8 +102,8 @@ module _ {e : System} (wf : WellFormed e) where
         | inl s ↦ inl s
         | inr m ↦
             let (a, i, k) = any_view (λ a. is_output (e.way a) && e.step p a q) (suc e.actions) m in
-            let (o, s) = and_parts (is_output (e.way a)) (e.step p a q) k in
-            inr (a, output_view (e.way a) o, s)
+            let (o, s) : (e.way a ≡ Output) × (e.step p a q ≡ true) = grind arith in
+            inr (a, o, s)
       ]
 
   local_quiet : (p q : ℕ) → e.step p 0 q ≡ true → local e p q ≡ true
@@ -113,9 +113,7 @@ module _ {e : System} (wf : WellFormed e) where
   local_output : (p a q : ℕ) → e.way a ≡ Output → e.step p a q ≡ true → local e p q ≡ true
   unfolding local
   local_output p a q o s =
-      or_right (e.step p 0 q) _
-      (any_make (λ a. is_output (e.way a) && e.step p a q) (suc e.actions) a (in_actions a (output_present o))
-      (and_from (is_output (e.way a)) (e.step p a q) (ap is_output o) s))
+      or_right (e.step p 0 q) _ (any_make (λ a. is_output (e.way a) && e.step p a q) (suc e.actions) a (in_actions a (output_present o)) (rw (o, s)))
 
   local_inside : Inside (λ q p. local e p q) e.states
   local_inside q p h =
@@ -217,53 +215,49 @@ module _ {e : System} (wf : WellFormed e) where
   errs_view : (X : ℕ → Bool) (w : List ℕ) → Word e w → errs e X w ≡ true → IllegalFrom X w ⊎ MissesFrom X w
   unfolding errs
   errs_view X [] h k = let (q, x, i) = fails_view X k in inl ([], q, q, prefix_refl [], x, here, i)
-  errs_view X (a ∷ w) h k =
-      go (or_cases (fails e X) ((is_input (e.way a) && misses e X a) || errs e (next e X a) w) k) (errs_view (next e X a) w h.1)
+  errs_view X (a ∷ w) h k = go (parts k) (errs_view (next e X a) w h.1)
     where
-      on : (errs e (next e X a) w ≡ true → IllegalFrom (next e X a) w ⊎ MissesFrom (next e X a) w)
-          → ((is_input (e.way a) && misses e X a) ≡ true) ⊎ (errs e (next e X a) w ≡ true) → IllegalFrom X (a ∷ w) ⊎ MissesFrom X (a ∷ w)
-      on rec (inl b) =
-          let (j, m) = and_parts (is_input (e.way a)) (misses e X a) b in
-          let (q, x, i) = misses_view X a m in
-          inr ([], a, q, q, (w, refl), input_view (e.way a) j, x, here, i)
-      on rec (inr b) = later X a w (present_nonzero wf h.0) (rec b)
+      parts : (fails e X || ((is_input (e.way a) && misses e X a) || errs e (next e X a) w)) ≡ true
+          → (fails e X ≡ true) ⊎ (((e.way a ≡ Input) × (misses e X a ≡ true)) ⊎ (errs e (next e X a) w ≡ true))
+      parts k = grind arith
 
-      go : (fails e X ≡ true) ⊎ (((is_input (e.way a) && misses e X a) || errs e (next e X a) w) ≡ true)
+      go : (fails e X ≡ true) ⊎ (((e.way a ≡ Input) × (misses e X a ≡ true)) ⊎ (errs e (next e X a) w ≡ true))
           → (errs e (next e X a) w ≡ true → IllegalFrom (next e X a) w ⊎ MissesFrom (next e X a) w) → IllegalFrom X (a ∷ w) ⊎ MissesFrom X (a ∷ w)
       go (inl f) rec = let (q, x, i) = fails_view X f in inl ([], q, q, (a ∷ w, refl), x, here, i)
-      go (inr f) rec = on rec (or_cases (is_input (e.way a) && misses e X a) (errs e (next e X a) w) f)
+      go (inr (inl (j, m))) rec = let (q, x, i) = misses_view X a m in inr ([], a, q, q, (w, refl), j, x, here, i)
+      go (inr (inr f)) rec = later X a w (present_nonzero wf h.0) (rec f)
 
   errs_here : (X : ℕ → Bool) (w : List ℕ) → fails e X ≡ true → errs e X w ≡ true
   unfolding errs
   errs_here X [] f = f
-  errs_here X (a ∷ w) f = or_left _ _ f
+  errs_here X (a ∷ w) f = rw f
 
   errs_later : (X : ℕ → Bool) (a : ℕ) (w : List ℕ) → errs e (next e X a) w ≡ true → errs e X (a ∷ w) ≡ true
   unfolding errs
-  errs_later X a w h = or_right (fails e X) _ (or_right (is_input (e.way a) && misses e X a) _ h)
+  errs_later X a w h = grind arith
 
   errs_misses : (X : ℕ → Bool) (a : ℕ) (w : List ℕ) → e.way a ≡ Input → misses e X a ≡ true → errs e X (a ∷ w) ≡ true
   unfolding errs
-  errs_misses X a w k h = or_right (fails e X) _ (or_left _ _ (and_from (is_input (e.way a)) (misses e X a) (ap is_input k) h))
+  errs_misses X a w k h = grind arith
 
   errs_illegal : (X : ℕ → Bool) (w u : List ℕ) → Stays e X → {p q : ℕ} → Prefix u w → X p ≡ true → Runs e p u q → Illegal e q → errs e X w ≡ true
   errs_illegal X w [] f pre x t i = errs_here X w (fails_make X (stays_run X f x t) i)
-  errs_illegal X [] (b ∷ u) f (v, k) x t i = absurd (middle≢nil [] (u ++ v) b k)
+  errs_illegal X [] (b ∷ u) f (v, k) x t i = cc
   errs_illegal X (a ∷ w) (b ∷ u) f {p} {q} (v, k) x t i =
       let same : b ≡ a = cc in
-      let (m, y, s) = next_enters X f x (subst (λ c. Runs e p (c ∷ u) q) same t) in
+      let (m, y, s) = next_enters X f x (rw same at t) in
       errs_later X a w (errs_illegal (next e X a) w u (next_stays X a) (v, cc) y s i)
 
   errs_missed : (X : ℕ → Bool) (w u : List ℕ) (a : ℕ) → Stays e X → {p q : ℕ} → Prefix (u ++ (a ∷ [])) w → e.way a ≡ Input → q < e.states → X p ≡ true → Runs e p u q
       → accepts e q a ≡ false → errs e X w ≡ true
-  errs_missed X [] [] a f (v, k) j i x t n = absurd (middle≢nil [] v a k)
-  errs_missed X [] (b ∷ u) a f (v, k) j i x t n = absurd (middle≢nil [] ((u ++ (a ∷ [])) ++ v) b k)
+  errs_missed X [] [] a f (v, k) j i x t n = cc
+  errs_missed X [] (b ∷ u) a f (v, k) j i x t n = cc
   errs_missed X (c ∷ w) [] a f {q = q} (v, k) j i x t n =
       let same : a ≡ c = cc in
-      errs_misses X c w (subst (λ z. e.way z ≡ Input) same j) (misses_make X c i (stays_run X f x t) (subst (λ z. accepts e q z ≡ false) same n))
+      errs_misses X c w (rw same at j) (misses_make X c i (stays_run X f x t) (rw same at n))
   errs_missed X (c ∷ w) (b ∷ u) a f {p} {q} (v, k) j i x t n =
       let same : b ≡ c = cc in
-      let (m, y, s) = next_enters X f x (subst (λ z. Runs e p (z ∷ u) q) same t) in
+      let (m, y, s) = next_enters X f x (rw same at t) in
       errs_later X c w (errs_missed (next e X c) w u a (next_stays X c) (v, cc) j i y s n)
 
 -- ---- words
@@ -271,14 +265,12 @@ module _ {e : System} (wf : WellFormed e) where
 pub word_view : (e : System) (w : List ℕ) → is_word e w ≡ true → Word e w
 unfolding is_word
 word_view e [] h = tt
-word_view e (a ∷ w) h =
-    let (k, l) = and_parts (is_input (e.way a) || is_output (e.way a)) (is_word e w) h in
-    (present_view (e.way a) k, word_view e w l)
+word_view e (a ∷ w) h = grind (arith, present_view (e.way a), word_view e w)
 
 pub word_make : (e : System) (w : List ℕ) → Word e w → is_word e w ≡ true
 unfolding is_word
 word_make e [] h = refl
-word_make e (a ∷ w) h = and_from _ _ (present_make (e.way a) h.0) (word_make e w h.1)
+word_make e (a ∷ w) h = rw (present_make (e.way a) h.0, word_make e w h.1)
 
 -- ---- from the start
 
@@ -291,7 +283,7 @@ module _ (e : System) (wf : WellFormed e) where
   unfolding opening
   opening_view {p} h =
       let (k, x, t) = reach_view wf (only e.start) p h in
-      subst (λ z. Runs e z [] p) (sym (only_view e.start k x)) t
+      rw (← only_view e.start k x) at t
 
   opening_has : opening e.start ≡ true
   unfolding opening

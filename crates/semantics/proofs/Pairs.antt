@@ -1,12 +1,12 @@
 -- What a composable pair of systems does, and a system that does the same, by numbers for pairs of states.
-use Rattle.std.proofs.Common.{◌≡◌, ℕ, ◌<◌, true, false, ◌⊎◌, sym, refl, ap, ◌∙◌, subst, subst₂, inl, inr}
+use Rattle.std.proofs.Common.{◌≡◌, ℕ, ◌<◌, true, false, ◌⊎◌, refl, ap, ◌∙◌, inl, inr}
 use lib.Arith.{digits_div, digits_mod}
 use Rattle.std.proofs.lemmas.Bool.{both_ways}
 use Rattle.semantics.specs.declared.way.Way.TheVariants.{Absent, Input}
 use Rattle.semantics.specs.System.{System, WellFormed, accepts}
 use Rattle.semantics.specs.Coupling.{Synced, Composable, pair_number, joined, CoupledStep, first, second, both, CoupledError, first_fails, second_fails, second_misses, first_misses, couple}
 use Rattle.semantics.proofs.Search.{false_if, accepts_view, accepts_make}
-use Rattle.semantics.proofs.Ways.{synced_swap, lone, lone_left, joined_comm, joined_input, input≢absent}
+use Rattle.semantics.proofs.Ways.{synced_swap, lone, lone_left, joined_comm, joined_input}
 use Rattle.semantics.proofs.Couplings.{one, two, step_view, step_make, error_view, error_make, coupling_is_well_formed_lem, parts_in, pair_parts}
 
 -- As `CoupledStep`, where a and c are composable: an action that is not synchronised is none of the other part.
@@ -34,13 +34,13 @@ pub record Implements (e a c : System) (enc : ℕ → ℕ → ℕ) (one two : �
 -- an input of one side alone is taken by that side
 only_left : {a c : System} {p q x p' q' : ℕ} → WellFormed a → a.way x ≡ Input → PairStep a c p q x p' q' → a.step p x p' ≡ true
 only_left wfa is (left x h s) = s
-only_left wfa is (right x h s) = absurd (input≢absent (sym is ∙ h))
-only_left wfa is (joint x h s t) = absurd (input≢absent (sym is ∙ wfa.internal))
+only_left wfa is (right x h s) = cc
+only_left wfa is (joint x h s t) = cc
 
 only_right : {a c : System} {p q x p' q' : ℕ} → WellFormed c → c.way x ≡ Input → PairStep a c p q x p' q' → c.step q x q' ≡ true
-only_right wfc is (left x h s) = absurd (input≢absent (sym is ∙ h))
+only_right wfc is (left x h s) = cc
 only_right wfc is (right x h s) = s
-only_right wfc is (joint x h s t) = absurd (input≢absent (sym is ∙ wfc.internal))
+only_right wfc is (joint x h s t) = cc
 
 module _ (a c : System) (wfa : WellFormed a) (wfc : WellFormed c) where
   step_ends : {p q x p' q' : ℕ} → p < a.states → q < c.states → PairStep a c p q x p' q' → (p' < a.states) × (q' < c.states)
@@ -77,14 +77,14 @@ module _ (a c : System) (wfa : WellFormed a) (wfc : WellFormed c) where
     takes {z} {x} {p'} {q'} h s =
         let (hp, hq) = parts_in a c wfc h in
         accepts_make (coupling_is_well_formed_lem a c wfa wfc)
-        (subst (λ k. (couple a c).step k x (pair_number c p' q') ≡ true) (pair_parts c z) (make hp hq s))
+        (rw (pair_parts c z) at (make hp hq s))
 
     taken : {p q x : ℕ} → q < c.states → accepts (couple a c) (pair_number c p q) x ≡ true → (p' : ℕ) × (q' : ℕ) × PairStep a c p q x p' q'
     taken {p} {q} {x} hq t =
         let (z', s) = accepts_view (couple a c) (pair_number c p q) x t in (
           one c z',
           two c z',
-          subst₂ (λ j k. PairStep a c j k x (one c z') (two c z')) (digits_div p hq) (digits_mod p hq) (view (pair_number c p q) x z' s),
+          rw (digits_div p hq, digits_mod p hq) at (view (pair_number c p q) x z' s),
         )
 
     pub couple_implements : Implements (couple a c) a c (pair_number c) (one c) (two c)

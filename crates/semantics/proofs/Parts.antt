@@ -1,5 +1,5 @@
 -- A run of a pair taken apart, into a run of one system and the part of the other in it, and put together again.
-use Rattle.std.proofs.Common.{◌≡◌, ℕ, ◌<◌, true, false, ◌≢◌, ◌⊎◌, List, [], ◌∷◌, ◌++◌, sym, refl, ◌∙◌, subst, inl, inr, append_assoc}
+use Rattle.std.proofs.Common.{◌≡◌, ℕ, ◌<◌, true, false, ◌≢◌, ◌⊎◌, List, [], ◌∷◌, ◌++◌, refl, ◌∙◌, subst, inl, inr, append_assoc}
 use Rattle.std.proofs.lemmas.Bool.{cases_Bool}
 use Rattle.semantics.specs.declared.way.Way.{Way}
 use Rattle.semantics.specs.declared.way.Way.TheVariants.{Absent, Input, Output}
@@ -42,8 +42,8 @@ module _ {a c : System} (wfa : WellFormed a) where
   quiet_on : {p q p₁ q₁ p' q' x : ℕ} {w : List ℕ} → x ≡ 0 → PairStep a c p q x p₁ q₁
       → (u : List ℕ) × Part a.way c q₁ u w q' × Runs a p₁ u p'
       → (u : List ℕ) × Part a.way c q u w q' × Runs a p u p'
-  quiet_on {p} {q} {p₁} z (left x h s) (u, m, r) = (u, m, quiet (subst (λ k. a.step p k p₁ ≡ true) z s) r)
-  quiet_on {p} {q} {p₁} {q₁} z (right x h s) (u, m, r) = (u, inner (subst (λ k. c.step q k q₁ ≡ true) z s) m, r)
+  quiet_on {p} {q} {p₁} z (left x h s) (u, m, r) = (u, m, quiet (rw z at s) r)
+  quiet_on {p} {q} {p₁} {q₁} z (right x h s) (u, m, r) = (u, inner (rw z at s) m, r)
   quiet_on z (joint x h s t) (u, m, r) = (x ∷ u, shared x h t m, letter x (present_nonzero wfa (synced_present h)) s r)
 
   letter_on : {p q p₁ q₁ p' q' x : ℕ} {w : List ℕ} → x ≢ 0 → PairStep a c p q x p₁ q₁
@@ -63,7 +63,7 @@ module _ {a c : System} (wfa : WellFormed a) where
 pub part_front : {ways : ℕ → Way} {c : System} {q r : ℕ} {u w : List ℕ} (v : List ℕ) → Part ways c q u w r → Prefix v u
     → (q' : ℕ) × (w' : List ℕ) × Part ways c q v w' q' × Prefix w' w
 part_front {q = q} [] done h = (q, [], done, prefix_refl [])
-part_front (x ∷ v) done (s, e) = absurd (middle≢nil [] (v ++ s) x e)
+part_front (x ∷ v) done (s, e) = cc
 part_front v (inner k m) h = let (q', w', m', pre) = part_front v m h in (q', w', inner k m', pre)
 part_front v (own {w = w} y n a k m) h =
     let (q', w', m', pre) = part_front v m h in (q', y ∷ w', own y n a k m', prefix_cons y w' w pre)
@@ -90,20 +90,20 @@ meets_letter_cons ways c q x y w' w (inr (h, pre)) = inr (h, prefix_cons y (w' +
 -- the part up to the letter x behind a prefix of the other's word
 pub part_before : {ways : ℕ → Way} {c : System} {q r : ℕ} {u w : List ℕ} (v : List ℕ) (x : ℕ) → Part ways c q u w r → Prefix (v ++ (x ∷ [])) u
     → (q' : ℕ) × (w' : List ℕ) × Part ways c q v w' q' × MeetsLetter ways c q' x w' w
-part_before v x done (s, e) = absurd (middle≢nil v s x (sym (append_assoc v (x ∷ []) s) ∙ e))
+part_before v x done (s, e) = absurd (middle≢nil v s x (rw append_assoc at e))
 part_before v x (inner k m) h = let (q', w', m', t) = part_before v x m h in (q', w', inner k m', t)
 part_before {ways} {c} v x (own {w = w} y n a k m) h =
     let (q', w', m', t) = part_before v x m h in (q', y ∷ w', own y n a k m', meets_letter_cons ways c q' x y w' w t)
 part_before {ways} {c} {q} [] x (theirs {w = w} y a m) (s, e) =
     let same : y ≡ x = cc in
-    (q, [], done, inr (subst (λ k. c.way k ≡ Absent) same a, (w, cc)))
+    (q, [], done, inr (rw same at a, (w, cc)))
 part_before {ways} {c} {q} (z ∷ v) x (theirs {w = w} y a m) (s, e) =
     let (q', w', m', t) = part_before v x m (s, cc) in
     let same : y ≡ z = cc in
     (q', y ∷ w', subst (λ k. Part ways c q (k ∷ v) (y ∷ w') q') same (theirs y a m'), meets_letter_cons ways c q' x y w' w t)
 part_before {ways} {c} {q} [] x (shared {q' = q₁} {w = w} y a k m) (s, e) =
     let same : y ≡ x = cc in
-    (q, [], done, inl (subst (λ j. Synced (ways j) (c.way j)) same a, (q₁, subst (λ j. c.step q j q₁ ≡ true) same k), (w, refl)))
+    (q, [], done, inl (rw same at a, (q₁, rw same at k), (w, refl)))
 part_before {ways} {c} {q} (z ∷ v) x (shared y a k m) (s, e) =
     let (q', w', m', t) = part_before v x m (s, cc) in
     let same : y ≡ z = cc in

@@ -1,16 +1,15 @@
 -- What may replace a system may replace it in a pair.
-use Rattle.std.proofs.Common.{◌≡◌, ℕ, ◌<◌, false, ◌⊎◌, List, [], ◌∷◌, ◌++◌, sym, refl, ap, ◌∙◌, subst, subst₂, inl, inr, append-nil}
+use Rattle.std.proofs.Common.{◌≡◌, ℕ, ◌<◌, false, ◌⊎◌, List, [], ◌∷◌, ◌++◌, sym, ◌∙◌, subst₂, inl, inr, append-nil, arith}
 use mathlib.Core.Path.{fun_ext}
-use Rattle.std.proofs.ByRecursion.{All-append}
 use Rattle.semantics.specs.declared.way.Way.{Way}
 use Rattle.semantics.specs.declared.way.Way.TheVariants.{Absent, Input, Output}
 use Rattle.semantics.specs.System.{System, WellFormed, accepts}
-use Rattle.semantics.specs.Trace.{Runs, here, letter, After, Word, ErrorTrace, Trace, Flooded}
+use Rattle.semantics.specs.Trace.{here, letter, After, Word, ErrorTrace, Trace, Flooded}
 use Rattle.semantics.specs.Replacement.{MayReplace}
-use Rattle.semantics.specs.Coupling.{Synced, Composable, joined, CoupledError, first_fails, second_fails, second_misses, first_misses}
-use Rattle.semantics.specs.Theorems.{CouplingPreservesReplacement, ReplacementIsReflexive, ReplacementChains}
-use Rattle.semantics.proofs.Ways.{present_nonzero, input_present, output_present, input≢output}
-use Rattle.semantics.proofs.Words.{prefix_append, word_like, outputs_like}
+use Rattle.semantics.specs.Coupling.{Synced, Composable, CoupledError, first_fails, second_fails, second_misses, first_misses}
+use Rattle.semantics.specs.Theorems.{CouplingPreservesReplacement, ReplacementChains}
+use Rattle.semantics.proofs.Ways.{present_nonzero, input_present, output_present}
+use Rattle.semantics.proofs.Words.{all_append, prefix_append, word_like, outputs_like}
 use Rattle.semantics.proofs.Runs.{runs_append, runs_split, runs_letter, runs_in, runs_word}
 use Rattle.semantics.proofs.Errors.{Cause, cause, error_trace, cause_error, cause_missed, cause_longer, cause_shorter}
 use Rattle.semantics.proofs.Couplings.{coupling_is_well_formed_lem}
@@ -18,15 +17,14 @@ use Rattle.semantics.proofs.Pairs.{Implements, couple_implements, swapped}
 use Rattle.semantics.proofs.Parts.{Part, done, theirs, shared, part-append, part_in, project, part_front, part_before, MeetsLetter, recompose, runs_away}
 
 sent : {v w : Way} → Synced v w → v ≡ Input → w ≡ Output
-sent (inl (h, k)) is = absurd (input≢output (sym is ∙ h))
-sent (inr (h, k)) is = k
+sent h is = grind arith
 
 -- ---- from b to the pair f of b and c
 
 module _ {b c f : System} {enc : ℕ → ℕ → ℕ} {one two : ℕ → ℕ} (wfb : WellFormed b) (wfc : WellFormed c) (apart : Composable b c)
     (J : Implements f b c enc one two) where
   pub together : {u w : List ℕ} {p r : ℕ} → Part b.way c c.start u w r → After b u p → After f w (enc p r)
-  together {u} {w} {p} {r} m t = subst (λ s. Runs f s w (enc p r)) J.start_is (recompose wfb wfc J m wfb.start_in wfc.start_in t)
+  together {u} {w} {p} {r} m t = rw J.start_is at (recompose wfb wfc J m wfb.start_in wfc.start_in t)
 
   pub after_in : {u : List ℕ} {p : ℕ} → After b u p → p < b.states
   after_in t = runs_in wfb wfb.start_in t
@@ -54,13 +52,13 @@ module _ {a b c e f : System} {enc : ℕ → ℕ → ℕ} {one two : ℕ → ℕ
     (wfa : WellFormed a) (wfb : WellFormed b) (wfc : WellFormed c) (wfe : WellFormed e)
     (apart : Composable b c) (I : Implements e a c enc one two) (J : Implements f b c enc' one' two') (R : MayReplace a b) where
   ways_same : (x : ℕ) → e.way x ≡ f.way x
-  ways_same x = I.way_is x ∙ ap (λ k. joined k (c.way x)) (R.ways x) ∙ sym (J.way_is x)
+  ways_same x = rw (I.way_is x, J.way_is x, R.ways x)
 
   -- a run of e, taken apart
   apart_run : {w : List ℕ} {z : ℕ} → After e w z → (u : List ℕ) × Part b.way c c.start u w (two z) × After a u (one z)
   apart_run {w} {z} t =
       let (u, m, s) = project wfa I t in
-      (u, subst₂ (λ k q. Part k c q u w (two z)) (fun_ext R.ways) I.start_two m, subst (λ p. Runs a p u (one z)) I.start_one s)
+      (u, subst₂ (λ k q. Part k c q u w (two z)) (fun_ext R.ways) I.start_two m, rw I.start_one at s)
 
   trace_of : (u : List ℕ) {p : ℕ} → After a u p → Cause b u ⊎ Trace b u
   trace_of u {p} t = elim (R.floods u (inl (p, t))) [ inl s ↦ inr s | inr h ↦ inl (cause b u h) ]
@@ -70,7 +68,7 @@ module _ {a b c e f : System} {enc : ℕ → ℕ → ℕ} {one two : ℕ → ℕ
 
   missed_of : (u : List ℕ) (x : ℕ) {p : ℕ} → After a u p → a.way x ≡ Input → accepts a p x ≡ false → Cause b (u ++ (x ∷ []))
   missed_of u x {p} t is misses =
-      cause_of (u ++ (x ∷ [])) (All-append (λ x. a.way x ≡ Absent → ⊥) u (x ∷ []) (runs_word wfa t) (input_present is, tt)) (cause_missed a u x p is t misses)
+      cause_of (u ++ (x ∷ [])) (all_append (λ x. a.way x ≡ Absent → ⊥) u (x ∷ []) (runs_word wfa t) (input_present is, tt)) (cause_missed a u x p is t misses)
 
   -- an error of e right behind the word w
   at_error : (u w : List ℕ) {p q : ℕ} → Part b.way c c.start u w q → After a u p → CoupledError a c p q → Cause f w
@@ -93,14 +91,14 @@ module _ {a b c e f : System} {enc : ℕ → ℕ → ℕ} {one two : ℕ → ℕ
       go (inr (p', t')) =
           let (p₂, t₂, t₃) = runs_split u (x ∷ []) t' in
           let (p₃, p₄, r, n, s', k) = runs_letter t₃ in
-          let t₄ : After b u p₃ = subst (λ v. After b v p₃) (append-nil u) (runs_append t₂ r) in
+          let t₄ : After b u p₃ = rw append-nil at (runs_append t₂ r) in
           cause_error f w (
             enc' p₃ q,
             together wfb wfc apart J m t₄,
             J.error_make (after_in wfb wfc apart J t₄) (part_end wfb wfc apart J m) (second_misses x p₄ is' takes s' misses),
           )
   at_error u w {p} {q} m t (first_misses x q₁ takes is s misses) =
-      subst (Cause f) (append-nil w)
+      rw append-nil at
       (carry wfb wfc apart J (u ++ (x ∷ [])) (w ++ []) (missed_of u x t takes misses) (part-append m (shared x (inr (sym (R.ways x) ∙ takes, is)) s done)))
 
   -- an input that e misses right behind the word w
@@ -157,9 +155,6 @@ coupling_preserves_replacement_lem a b c wfa wfb wfc h R =
       replaced wfa wfb wfc (coupling_is_well_formed_lem c a wfc wfa) k
           (swapped (couple_implements c a wfc wfa (composable_swap h))) (swapped (couple_implements c b wfc wfb (composable_swap k))) R,
     )
-
-pub replacement_is_reflexive_lem : ReplacementIsReflexive
-replacement_is_reflexive_lem a = record { ways = λ x. refl; errors = λ w t. t; floods = λ w t. t }
 
 pub replacement_chains_lem : ReplacementChains
 replacement_chains_lem a b c h k =

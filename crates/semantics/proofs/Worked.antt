@@ -1,7 +1,8 @@
 -- The worked examples: what holds of them is shown by runs, and what does not by deciding it.
-use Rattle.std.proofs.Common.{◌≡◌, ℕ, ◌<◌, ◌≤◌, max, Bool, true, false, ◌&&◌, ◌||◌, eqb, ltb, ◌≢◌, ◌⊎◌, List, [], ◌∷◌, sym, refl, ap, ◌∙◌, subst, inl, inr, arith}
+use Rattle.std.proofs.Common.{◌≡◌, ℕ, ◌<◌, ◌≤◌, max, Bool, true, false, ◌&&◌, ◌||◌, eqb, ltb, ◌≢◌, ◌⊎◌, List, [], ◌∷◌, sym, refl, ◌∙◌, inl, inr, arith}
 use mathlib.Core.Bool.{false≢true}
-use Rattle.std.proofs.lemmas.Bool.{and_parts, or_cases, or_left, cases_Bool, both_ways, eqb-true, ltb-true}
+use Rattle.std.proofs.lemmas.Bool.Decides.{nat_tests}
+use Rattle.std.proofs.lemmas.Bool.{both_ways}
 use Rattle.semantics.specs.declared.way.Way.{Way}
 use Rattle.semantics.specs.declared.way.Way.TheVariants.{Absent, Input}
 use Rattle.semantics.specs.Way.{is_input, is_output}
@@ -12,7 +13,7 @@ use Rattle.semantics.specs.Coupling.{couple, step_at, missed_at, error_at}
 use Rattle.semantics.specs.Deciding.{only, meets, grown, grown_by, closure, moved, reach, next, walk, after, local, illegal, fails, misses, is_word, is_trace, errs, is_error_trace}
 use Rattle.semantics.specs.Examples.{step_in, state_in, one_of_each, small, doomed, replying, silent, LateInputIsMissed, OutputIntoErrorCountsBeforeIt, SilentMayReplaceReplying, ReplyingMayNotReplaceSilent, RelayMissesASecondReply}
 use Rattle.semantics.proofs.Search.{false_if, accepts_view, accepts_make}
-use Rattle.semantics.proofs.Ways.{input≢absent, input≢output, present_view}
+use Rattle.semantics.proofs.Ways.{input≢absent, present_view}
 use Rattle.semantics.proofs.Words.{word_like, outputs_like}
 use Rattle.semantics.proofs.Errors.{Cause, cause, error_trace}
 use Rattle.semantics.proofs.Closure.{meets_make}
@@ -32,46 +33,15 @@ abbrev FitsAt : ℕ → (ℕ → Way) → ℕ → ℕ → ℕ → Type 0
 FitsAt n way p x q = (p < n) × (q < n) × ((x ≡ 0) ⊎ (way x ≢ Absent))
 
 steps_fit_lem : (n : ℕ) (way : ℕ → Way) (steps : List (ℕ × ℕ × ℕ)) → steps_fit n way steps ≡ true → (p x q : ℕ) → step_in steps p x q ≡ true → FitsAt n way p x q
-steps_fit_lem n way [] h p x q e = absurd (false≢true e)
-steps_fit_lem n way ((p', x', q') ∷ rest) h p x q e = go (or_cases (eqb p p' && (eqb x x' && eqb q q')) (step_in rest p x q) e) (steps_fit_lem n way rest parts.1 p x q)
-  where
-    fit : Bool
-    fit = ltb p' n && (ltb q' n && (eqb x' 0 || (is_input (way x') || is_output (way x'))))
-
-    parts : (fit ≡ true) × (steps_fit n way rest ≡ true)
-    parts = and_parts fit (steps_fit n way rest) h
-
-    fits : FitsAt n way p' x' q'
-    fits =
-        let (i, j) = and_parts (ltb p' n) (ltb q' n && (eqb x' 0 || (is_input (way x') || is_output (way x')))) parts.0 in
-        let (k, l) = and_parts (ltb q' n) (eqb x' 0 || (is_input (way x') || is_output (way x'))) j in
-        (ltb-true p' n i, ltb-true q' n k, elim (or_cases (eqb x' 0) (is_input (way x') || is_output (way x')) l) [ inl z ↦ inl (eqb-true x' 0 z) | inr z ↦ inr (present_view (way x') z) ])
-
-    go : ((eqb p p' && (eqb x x' && eqb q q')) ≡ true) ⊎ (step_in rest p x q ≡ true) → (step_in rest p x q ≡ true → FitsAt n way p x q) → FitsAt n way p x q
-    go (inl t) rec =
-        let (i, j) = and_parts (eqb p p') (eqb x x' && eqb q q') t in
-        let (k, l) = and_parts (eqb x x') (eqb q q') j in
-        rw (eqb-true p p' i, eqb-true x x' k, eqb-true q q' l) fits
-    go (inr t) rec = rec t
+steps_fit_lem n way [] h p x q e = cc
+steps_fit_lem n way ((p', x', q') ∷ rest) h p x q e = grind (arith, nat_tests, present_view (way x'), steps_fit_lem n way rest)
 
 states_fit_lem : (n : ℕ) (states : List ℕ) → states_fit n states ≡ true → (p : ℕ) → state_in states p ≡ true → p < n
-states_fit_lem n [] h p e = absurd (false≢true e)
-states_fit_lem n (p' ∷ rest) h p e =
-    let (i, j) = and_parts (ltb p' n) (states_fit n rest) h in
-    elim (or_cases (eqb p p') (state_in rest p) e) [
-      | inl t ↦ (let same = eqb-true p p' t in let l = ltb-true p' n i in omega arith)
-      | inr t ↦ states_fit_lem n rest j p t
-    ]
+states_fit_lem n [] h p e = cc
+states_fit_lem n (p' ∷ rest) h p e = grind (arith, nat_tests, states_fit_lem n rest)
 
 one_of_each_lem : (i o x : ℕ) → one_of_each i o x ≢ Absent → x ≤ max i o
-one_of_each_lem i o x h =
-    elim (cases_Bool (eqb x i)) [
-      | inl t ↦ (let same = eqb-true x i t in omega arith)
-      | inr t ↦ elim (cases_Bool (eqb x o)) [
-        | inl u ↦ (let same = eqb-true x o u in omega arith)
-        | inr u ↦ absurd (h (rw (t, u)))
-      ]
-    ]
+one_of_each_lem i o x h = grind (arith, nat_tests)
 
 small_well_formed : (n i o : ℕ) (steps : List (ℕ × ℕ × ℕ)) (errors : List ℕ) → 0 < n → one_of_each i o 0 ≡ Absent
     → steps_fit n (one_of_each i o) steps ≡ true → states_fit n errors ≡ true → WellFormed (small n i o steps errors)
@@ -94,18 +64,12 @@ silent_well_formed = small_well_formed 2 1 2 ((0, 1, 1) ∷ []) [] (omega arith)
 
 -- ---- the examples
 
-one≢zero : ◌≢◌ {A = ℕ} 1 0
-one≢zero z = omega arith
-
-two≢zero : ◌≢◌ {A = ℕ} 2 0
-two≢zero z = omega arith
-
 pub late_input_is_missed_lem : LateInputIsMissed
 unfolding accepts has_step any
 late_input_is_missed_lem = (
   refl,
   refl,
-  (1, quiet {q = 1} refl (letter 1 one≢zero refl here)),
+  (1, quiet {q = 1} refl (letter 1 (λ z. omega arith) refl here)),
   ((input≢absent, tt), inr ([], 1, ([], refl), refl, (0, here, refl))),
 )
 
@@ -120,7 +84,7 @@ output_into_error_counts_before_it_lem = (not_yet, at_once, not_before)
     not_yet h = false≢true (strict_error_decided doomed_well_formed (1 ∷ []) h)
 
     at_once : ErrorTrace doomed (1 ∷ [])
-    at_once = ((input≢absent, tt), inl ((1 ∷ 2 ∷ []), (2, letter {q = 1} 1 one≢zero refl (letter {q = 2} 2 two≢zero refl here), refl), ([], refl)))
+    at_once = ((input≢absent, tt), inl ((1 ∷ 2 ∷ []), (2, letter {q = 1} 1 (λ z. omega arith) refl (letter {q = 2} 2 (λ z. omega arith) refl here), refl), ([], refl)))
 
     not_before : ErrorTrace doomed [] → ⊥
     not_before h = false≢true ((words_are_decided_lem doomed doomed_well_formed []).1.1 h)
@@ -135,7 +99,7 @@ module _ (a b : System) (wfa : WellFormed a) (start : a.start ≡ b.start) (ways
   runs_like (letter {p = p} {q = q} x n s t) = letter x n (fewer p x q s) (runs_like t)
 
   after_like : (w : List ℕ) {q : ℕ} → After a w q → After b w q
-  after_like w {q} t = subst (λ z. Runs b z w q) start (runs_like t)
+  after_like w {q} t = rw start at (runs_like t)
 
   missed_like : (p x : ℕ) → b.way x ≡ Input → accepts a p x ≡ false → accepts b p x ≡ false
   missed_like p x is n =
@@ -163,24 +127,14 @@ silent_may_replace_replying_lem =
     fewer_steps silent replying silent_well_formed refl (λ x. refl) (λ p e. e) fewer inputs
   where
     fewer : (p x q : ℕ) → silent.step p x q ≡ true → replying.step p x q ≡ true
-    fewer p x q s = elim (or_cases (eqb p 0 && (eqb x 1 && eqb q 1)) false s) [ inl t ↦ or_left _ _ t | inr t ↦ absurd (false≢true t) ]
-
-    no_input : (x : ℕ) → x ≡ 2 → replying.way x ≡ Input → ⊥
-    no_input x two is = input≢output (sym is ∙ ap replying.way two)
+    fewer p x q s = grind (arith, nat_tests)
 
     inputs : (p x q : ℕ) → replying.way x ≡ Input → replying.step p x q ≡ true → silent.step p x q ≡ true
-    inputs p x q is s =
-        elim (or_cases (eqb p 0 && (eqb x 1 && eqb q 1)) ((eqb p 1 && (eqb x 2 && eqb q 0)) || false) s) [
-          | inl t ↦ or_left _ _ t
-          | inr t ↦ elim (or_cases (eqb p 1 && (eqb x 2 && eqb q 0)) false t) [
-            | inl u ↦ (let (k, l) = and_parts (eqb p 1) (eqb x 2 && eqb q 0) u in let (m, n) = and_parts (eqb x 2) (eqb q 0) l in absurd (no_input x (eqb-true x 2 m) is))
-            | inr u ↦ absurd (false≢true u)
-          ]
-        ]
+    inputs p x q is s = grind (arith, nat_tests)
 
 pub replying_may_not_replace_silent_lem : ReplyingMayNotReplaceSilent
 unfolding is_trace after walk next moved is_error_trace is_word errs fails misses meets any closure grown_by grown reach only illegal local accepts has_step
-replying_may_not_replace_silent_lem R = go (R.floods (1 ∷ 2 ∷ []) (inl (0, letter {q = 1} 1 one≢zero refl (letter {q = 0} 2 two≢zero refl here))))
+replying_may_not_replace_silent_lem R = go (R.floods (1 ∷ 2 ∷ []) (inl (0, letter {q = 1} 1 (λ z. omega arith) refl (letter {q = 0} 2 (λ z. omega arith) refl here))))
   where
     go : Flooded silent (1 ∷ 2 ∷ []) → ⊥
     go (inl h) = false≢true ((words_are_decided_lem silent silent_well_formed (1 ∷ 2 ∷ [])).0.1 h)
