@@ -8,7 +8,6 @@ pub mod Entries
 pub mod Keeps
 pub mod Follows
 pub mod Pairs
-pub mod Runs
 pub mod Parts
 pub mod Contents
 pub mod Layouts

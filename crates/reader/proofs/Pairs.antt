@@ -1,23 +1,13 @@
 -- The records of a certificate, one by one.
-use Rattle.std.proofs.Common.{◌≡◌, ℕ, ◌+◌, ◌*◌, ◌<◌, ◌≤◌, List, [], ◌∷◌, ◌++◌, length, get_or, Some, None, Ok, Err, refl, ap, arith}
+use Rattle.std.proofs.Common.{◌≡◌, ℕ, ◌+◌, ◌<◌, ◌≤◌, List, [], ◌∷◌, ◌++◌, length, Some, None, Ok, Err, refl, ap, arith}
 use Rattle.std.proofs.lemmas.Bool.Decides.{nat_tests}
 use Rattle.reader.specs.declared.fault.Fault.{Fault}
 use Rattle.reader.specs.declared.fault.Fault.TheVariants.{Cut}
 use Rattle.reader.specs.declared.evidence.EvidenceFault.TheVariants.{Record, Pairs}
 use Rattle.reader.specs.declared.pair.Pair.{Pair}
 use Rattle.reader.specs.Record.{Records, none, front, records, size_of}
-use Rattle.reader.specs.Pairs.{pair_sized, pair_of, gather}
+use Rattle.reader.specs.Pairs.{pair_of, gather}
 use Rattle.reader.proofs.Records.{records-none, records-some, records-cut, records-next}
-
-pub narrow_is : (at : ℕ) (body : List ℕ) (p s : ℕ) → length body ≡ 4 → p ≡ get_or body 0 0 + get_or body 1 0 * 256 → s ≡ get_or body 2 0 + get_or body 3 0 * 256 → Ok (record { state = p; set = s }) ≡ pair_sized 4 at body
-narrow_is at (a ∷ b ∷ c ∷ d ∷ []) p s h ep es = grind arith
-narrow_is at body p s h ep es = absurd (omega arith)
-
-pub wide_is : (at : ℕ) (body : List ℕ) (p s : ℕ) → length body ≡ 10 → p ≡ get_or body 0 0 + get_or body 1 0 * 256
-    → s ≡ get_or body 2 0 + get_or body 3 0 * 256 + get_or body 4 0 * 65536 + get_or body 5 0 * 16777216 + get_or body 6 0 * 4294967296 + get_or body 7 0 * 1099511627776 + get_or body 8 0 * 281474976710656 + get_or body 9 0 * 72057594037927936
-    → Ok (record { state = p; set = s }) ≡ pair_sized 10 at body
-wide_is at (a ∷ b ∷ m0 ∷ m1 ∷ m2 ∷ m3 ∷ m4 ∷ m5 ∷ m6 ∷ m7 ∷ []) p s h ep es = grind arith
-wide_is at body p s h ep es = absurd (omega arith)
 
 -- a pair's record takes at most 14 bytes
 pub pair_short : (at kind : ℕ) (body : List ℕ) (p : Pair) → pair_of at kind body ≡ Ok p → length body ≤ 10

@@ -13,7 +13,6 @@ use Rattle.reader.specs.Record.{Records, none, next, size_of}
 use Rattle.reader.specs.Row.{blank, way_of, error_at, listed, told, declared, fitting}
 use Rattle.reader.specs.Draft.{with_way, with_step, with_error, way_from, due, staged, entered, closed, follow}
 use Rattle.reader.specs.Layout.{Action, telling, action_body, step_body, error_body, closing}
-
 use Rattle.reader.proofs.Drafts.{headed_fits}
 use Rattle.reader.proofs.Entries.{Entry, is_head, is_action, is_step, is_error, is_end}
 use Rattle.reader.proofs.Follows.{first, follow_more}

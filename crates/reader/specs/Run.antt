@@ -1,5 +1,4 @@
 -- ending_of e i     the ending of number e with the input i, or none
--- move_in bytes     the move in front of some bytes, and the bytes behind it, or none
 -- moves_in bytes    the moves that some bytes tell, three bytes for each
 -- run_in bytes      the run that some bytes tell, as its ending and its moves, or their first fault
 -- outcome r         what a reader answered: the run, or the fault
@@ -19,13 +18,7 @@ abbrev pub ending_of : ℕ → ℕ → Option endings.Ending
 ending_of e i =
     cond (e == 1 && i == 0) (Some Flooded) (cond (e == 2 && i == 0) (Some Error) (cond (e == 3) (Some (Unaccepted i)) None))
 
--- an action, and the state of two bytes, in front of other bytes
-abbrev pub move_in : List ℕ → Option (Move × List ℕ)
-move_in [] = None
-move_in (a ∷ []) = None
-move_in (a ∷ b ∷ []) = None
-move_in (a ∷ b ∷ c ∷ bytes) = Some (record { action = a; state = little (b ∷ c ∷ []) }, bytes)
-
+-- an action, and the state of two bytes, for each
 abbrev pub moves_in : List ℕ → List Move
 moves_in [] = []
 moves_in (a ∷ []) = []

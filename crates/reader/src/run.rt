@@ -2,7 +2,7 @@
 ghost use Rattle.std.specs.Prelude.{◌≡◌, ◌*◌, ◌<◌, ◌≤◌, List, length, Ok, MatchResult};
 ghost use Rattle.std.specs.Option.{option_map};
 ghost use Rattle.reader.specs.Evidence.{RunLaid, RunBreaks};
-ghost use Rattle.reader.specs.Run.{ending_of, move_in, moves_in, moved, embodied, run_in, outcome};
+ghost use Rattle.reader.specs.Run.{ending_of, moves_in, moved, embodied, run_in, outcome};
 
 use crate::evidence::EvidenceFault;
 use crate::fault::Fault;
