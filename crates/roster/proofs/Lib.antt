@@ -2,3 +2,5 @@ pub mod Law
 pub mod Bits
 pub mod Tables
 pub mod Charts
+pub mod Chains
+pub mod Answered

@@ -7,4 +7,3 @@ pub mod Moves
 pub mod Layered
 pub mod Joints
 pub mod Search
-pub mod Answered

@@ -1,0 +1,67 @@
+-- What a chain over the numbers below a bound finds, said by `any` and `lowest`.
+use Rattle.std.proofs.Common.{◌≡◌, ℕ, zero, suc, ◌+◌, ◌<◌, ◌≤◌, Bool, true, false, ◌||◌, List, Some, None, Option, MatchOption, refl, ap, sym, ◌∙◌, inl, inr, arith}
+use Rattle.std.specs.List.{list_any, range_with_len, FoldsTo}
+use Rattle.std.specs.Bool.{⊤}
+use Rattle.std.specs.Fn.{Called, CalledAt}
+use Rattle.std.specs.Iterator.{YieldsThen}
+use Rattle.std.proofs.iter.Yields.{nat_range_steps}
+use Rattle.std.proofs.lemmas.Iterator.{YieldsList-from_range, first_from_Range}
+use Rattle.std.proofs.lemmas.Iterator.Search.{any_from_yields_List}
+use Rattle.std.specs.declared.ops.Range.{Range}
+use denote.Param.Members.{Mut}
+use denote.Ref.{Bor}
+use Rattle.std.proofs.lemmas.Bool.{or_cases, or_left, or_right, cases_eq, false≢true}
+use Rattle.semantics.specs.System.{any}
+use Rattle.semantics.proofs.Search.{false_if, same_test, any_view, any_make}
+use Rattle.roster.specs.Layer.{lowest}
+use Rattle.roster.specs.Search.{lowest_none, lowest_here}
+
+-- ---- any
+
+listed_view : (f : ℕ → Bool) (a n : ℕ) → list_any f (range_with_len a n) ≡ true → (q : ℕ) × (q < a + n) × (f q ≡ true)
+listed_view f a zero e = absurd (false≢true e)
+listed_view f a (suc n) e =
+    elim (or_cases (f a) (list_any f (range_with_len (a + 1) n)) e) [
+      | inl t ↦ (a, omega arith, t)
+      | inr t ↦ let (q, h, k) = listed_view f (a + 1) n t in (q, omega arith, k)
+    ]
+
+listed_make : (f : ℕ → Bool) (a n q : ℕ) → a ≤ q → q < a + n → f q ≡ true → list_any f (range_with_len a n) ≡ true
+listed_make f a zero q from to t = absurd (omega arith)
+listed_make f a (suc n) q from to t =
+    elim (cases_eq q a) [
+      | inl e ↦ or_left (f a) (list_any f (range_with_len (a + 1) n)) (ap f (sym e) ∙ t)
+      | inr k ↦ or_right (f a) (list_any f (range_with_len (a + 1) n)) (listed_make f (a + 1) n q (omega arith) (omega arith) t)
+    ]
+
+any_listed : (f : ℕ → Bool) (n : ℕ) → list_any f (range_with_len 0 n) ≡ any f n
+any_listed f n =
+    same_test (list_any f (range_with_len 0 n)) (any f n)
+    (λ t. let (q, h, k) = listed_view f 0 n t in any_make f n q (omega arith) k)
+    (λ t. let (q, h, k) = any_view f n t in listed_make f 0 n q (omega arith) (omega arith) k)
+
+-- what a call of `any` over the numbers below n answers, whose closure asks the test f
+pub any_range : {F : Type 0} {g : Mut F (ℕ × Unit {0}) Bool} (f : ℕ → Bool) (n : ℕ) (u : Range ℕ) (j : F) (r : Bool)
+    → (xs : List ℕ) × (o : Option ℕ) × (l : F) × YieldsThen nat_range_steps (record { start = 0; end = n }) xs o u × FoldsTo (λ p x q. Called g p (x, tt) false q) j xs l × MatchOption o (r ≡ false) (λ x. (r ≡ true) × ((h : F) × Called g l (x, tt) true h))
+    → ((x : ℕ) (b : Bool) (q : F) → Called g j (x, tt) b q → (q ≡ j) × (b ≡ f x)) → r ≡ any f n
+any_range f n u j r ran calls = any_from_yields_List f u j r ran (YieldsList-from_range 0 n n refl (omega arith)) calls ∙ any_listed f n
+
+-- ---- the lowest
+
+none_below : (f : ℕ → Bool) (n : ℕ) → ((k : ℕ) → 0 ≤ k → k < n → f k ≡ false) → any f n ≡ false
+none_below f n h = false_if (λ t. let (k, low, s) = any_view f n t in false≢true (sym (h k (omega arith) low) ∙ s))
+
+lowest_first : (f : ℕ → Bool) (n : ℕ) (r : Option ℕ)
+    → MatchOption r ((k : ℕ) → 0 ≤ k → k < n → f k ≡ false) (λ i. (0 ≤ i) × (i < n) × (f i ≡ true) × ((k : ℕ) → 0 ≤ k → k < i → f k ≡ false)) → r ≡ lowest f n
+lowest_first f n None h = sym (lowest_none f n (none_below f n h))
+lowest_first f n (Some i) h = sym (lowest_here f n i h.1 (none_below f i h.3) h.2)
+
+-- what a call of `find` over the numbers below n answers, whose closure asks the test f
+pub lowest_range : {F : Type 0} {g : Mut F (Bor ℕ × Unit {0}) Bool} (f : ℕ → Bool) (n : ℕ) (u : Range ℕ) (j : F) (r : Option ℕ)
+    → (xs : List ℕ) × (l : F) × YieldsThen nat_range_steps (record { start = 0; end = n }) xs r u × FoldsTo (λ p x q. CalledAt g p x false q) j xs l × MatchOption r ⊤ (λ x. (h : F) × CalledAt g l x true h)
+    → ((x : ℕ) (b : Bool) (q : F) → CalledAt g j x b q → (q ≡ j) × (b ≡ f x)) → r ≡ lowest f n
+lowest_range f n u j r ran calls =
+    lowest_first f n r
+    (first_from_Range (record { start = 0; end = n }) u j r (λ x. f x ≡ true) (λ x. f x ≡ false) ran
+    (λ x q k. sym (calls x true q k).1)
+    (λ x q k. ((calls x false q k).0, sym (calls x false q k).1)))
