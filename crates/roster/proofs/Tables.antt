@@ -1,7 +1,10 @@
 -- The system of a row that keeps the limits and facts of a table, and the stations of a list of rows.
-use Rattle.std.proofs.Common.{◌≡◌, ℕ, zero, suc, ◌-◌, ◌<◌, ◌≤◌, min, true, false, not, ◌&&◌, eqb, ltb, leb, ◌≢◌, ◌↔◌, List, [], ◌∷◌, length, get_or, take, is_some, Some, None, Option, sym, refl, ap, ◌∙◌, subst, inl, inr, arith}
+use Rattle.std.proofs.Common.{◌≡◌, ℕ, zero, suc, ◌+◌, ◌-◌, ◌<◌, ◌≤◌, min, true, false, not, ◌&&◌, eqb, ltb, leb, ◌≢◌, ◌↔◌, List, [], ◌∷◌, length, get_or, take, drop, is_some, Some, None, Option, sym, refl, ap, ◌∙◌, subst, inl, inr, arith}
 use mathlib.Core.Bool.{false≢true}
-use Rattle.std.proofs.lemmas.List.{get_or_past, get_or-take, length-take}
+use Rattle.std.specs.List.{list_any}
+use Rattle.std.proofs.lemmas.List.{get_or_past, get_or-take, get_or-drop, length-take}
+use Rattle.std.proofs.lemmas.List.Folds.{list_any_at}
+use Rattle.std.proofs.lemmas.List.Recursion.{or_from_places}
 use Rattle.std.proofs.lemmas.Bool.{and_parts, and_from, or_cases, not-true, not_from_false, both_ways, cases_Bool, cases_lt, leb-true, le-leb, ltb-true, lt-ltb, le-ltb, eqb-true, cond-true, cond-false}
 use Rattle.semantics.specs.declared.way.Way.{Way}
 use Rattle.semantics.specs.declared.way.Way.TheVariants.{Absent, Input, Output}
@@ -10,7 +13,7 @@ use Rattle.semantics.proofs.Search.{false_if, any_view, any_make}
 use Rattle.semantics.proofs.Ways.{input≢absent, output≢absent}
 use Rattle.reader.specs.declared.row.Row.{Row}
 use Rattle.reader.specs.declared.row.Step.{Step}
-use Rattle.reader.specs.Row.{unused, way_of, error_at, listed, same_step, told, declared, usable, fitting, Facts}
+use Rattle.reader.specs.Row.{unused, way_of, error_at, listed, same_step, told, declared, usable, fitting, ErrorsFit, Facts}
 use Rattle.reader.proofs.Contents.{same_step_lem}
 use Rattle.roster.specs.Meaning.{Lawful, filled}
 use Rattle.roster.specs.Rows.{system_of, stray_step, stray_error, limited, keeps, station_of, station_at, table_meaning}
@@ -22,33 +25,38 @@ steps_fit r none k h =
       | inr t ↦ absurd (both_ways (any (stray_step r) r.count) none (any_make (stray_step r) r.count k h (not_from_false _ t)))
     ]
 
-errors_fit : (r : Row) → any (stray_error r) (length r.errors) ≡ false → (s : ℕ) → error_at r s ≡ true → s < r.states
+errors_fit : (r : Row) → stray_error r ≡ false → (s : ℕ) → error_at r s ≡ true → s < r.states
 errors_fit r none s t =
     elim (cases_lt s r.states) [
       | inl h ↦ h
-      | inr h ↦ elim (cases_lt s (length r.errors)) [
-        | inl k ↦ absurd
-            (both_ways (any (stray_error r) (length r.errors)) none
-            (any_make (stray_error r) (length r.errors) s k (and_from (error_at r s) (not (ltb s r.states)) t (not_from_false (ltb s r.states) (le-ltb s r.states h)))))
-        | inr k ↦ absurd (both_ways (error_at r s) (get_or_past r.errors s false k) t)
-      ]
+      | inr h ↦
+          (let told : get_or (drop r.states r.errors) (s - r.states) false ≡ true = rw get_or-drop (ap (λ k. get_or r.errors k false) (omega arith) ∙ t) in
+          elim (cases_lt (s - r.states) (length (drop r.states r.errors))) [
+            | inl k ↦ absurd (both_ways (stray_error r) none (list_any_at (λ b. b) (drop r.states r.errors) (s - r.states) false k told))
+            | inr k ↦ absurd (both_ways (get_or (drop r.states r.errors) (s - r.states) false) (get_or_past (drop r.states r.errors) (s - r.states) false k) told)
+          ])
     ]
+
+no_stray_error : (r : Row) → ErrorsFit r → stray_error r ≡ false
+no_stray_error r fails =
+    or_from_places (list_any (λ b. b)) (λ b. b) refl (λ x xs. refl) (drop r.states r.errors) false
+    (λ i h. rw get_or-drop (false_if (λ t. let low = fails (r.states + i) t in omega arith)))
 
 pub keeps_facts_lem : (r : Row) → (keeps r ≡ true) ↔ Facts r
 unfolding keeps
 keeps_facts_lem r = (
   λ e.
-      let (l, w) = and_parts (limited r) (not (any (stray_step r) r.count) && not (any (stray_error r) (length r.errors))) e in
+      let (l, w) = and_parts (limited r) (not (any (stray_step r) r.count) && not (stray_error r)) e in
       let (some, l') = and_parts (leb 1 r.states) (leb r.states 64 && (ltb r.start r.states && leb r.count 256)) l in
       let (few, l'') = and_parts (leb r.states 64) (ltb r.start r.states && leb r.count 256) l' in
       let (begins, room) = and_parts (ltb r.start r.states) (leb r.count 256) l'' in
-      let (steps, errors) = and_parts (not (any (stray_step r) r.count)) (not (any (stray_error r) (length r.errors))) w in (
+      let (steps, errors) = and_parts (not (any (stray_step r) r.count)) (not (stray_error r)) w in (
         leb-true 1 r.states some,
         leb-true r.states 64 few,
         ltb-true r.start r.states begins,
         leb-true r.count 256 room,
         steps_fit r (not-true (any (stray_step r) r.count) steps),
-        errors_fit r (not-true (any (stray_error r) (length r.errors)) errors),
+        errors_fit r (not-true (stray_error r) errors),
       ),
   λ f.
       let (some, few, begins, room, fits, fails) = f in
@@ -57,12 +65,7 @@ keeps_facts_lem r = (
       (and_from _ _
       (not_from_false (any (stray_step r) r.count)
       (false_if (λ t. let (k, h, s) = any_view (stray_step r) r.count t in both_ways (fitting r (get_or r.steps k unused)) (not-true _ s) (fits k h))))
-      (not_from_false (any (stray_error r) (length r.errors))
-      (false_if
-      (λ t.
-      let (s, h, k) = any_view (stray_error r) (length r.errors) t in
-      let (e, n) = and_parts (error_at r s) (not (ltb s r.states)) k in
-      both_ways (ltb s r.states) (not-true (ltb s r.states) n) (lt-ltb s r.states (fails s e)))))),
+      (not_from_false (stray_error r) (no_stray_error r fails))),
 )
 
 -- ---- the system
