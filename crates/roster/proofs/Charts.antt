@@ -2,13 +2,13 @@
 use Rattle.std.proofs.Common.{◌≡◌, ℕ, ◌+◌, ◌*◌, ◌<◌, length, Bool, true, false, ◌&&◌, ◌||◌, eqb, ltb, List, replicate, get_or, set, sym, refl, ap, ◌∙◌, inl, inr, arith, get_or-set_other}
 use Rattle.std.proofs.Math.Bool.{or-false}
 use Rattle.std.proofs.lemmas.Bool.{lt-ltb, ltb-true, eq-eqb, eqb-true, and_parts, and_from, and_left, and_right, cases_eq, cases_Bool}
+use Rattle.std.proofs.lemmas.Nat.Bits.{bit_at-zero}
 use Rattle.std.proofs.lemmas.Grind.{get_or-set_at}
 use Rattle.reader.proofs.Rows.{get_or_alike}
 use Rattle.reader.specs.declared.row.Step.{Step}
 use Rattle.reader.specs.Row.{same_step}
 use Rattle.roster.specs.Bits.{bit}
 use Rattle.roster.specs.Moves.{in_chart, holds}
-use Rattle.roster.proofs.Bits.{bit-none}
 
 pub in_chart_from : (p x q : ℕ) → p < 64 → x < 33 → q < 64 → in_chart p x q ≡ true
 in_chart_from p x q hp hx hq = and_from (ltb p 64) (ltb x 33 && ltb q 64) (lt-ltb p 64 hp) (and_from (ltb x 33) (ltb q 64) (lt-ltb x 33 hx) (lt-ltb q 64 hq))
@@ -27,7 +27,7 @@ holds_outside sets p x q beyond = and_left (in_chart p x q) (bit (get_or sets (x
 pub holds_none : (n p x q : ℕ) → holds (replicate n 0) p x q ≡ false
 unfolding holds
 holds_none n p x q =
-    and_right (in_chart p x q) (bit (get_or (replicate n 0) (x * 64 + p) 0) q) (ap (λ m. bit m q) (get_or_alike n (x * 64 + p) 0) ∙ bit-none q)
+    and_right (in_chart p x q) (bit (get_or (replicate n 0) (x * 64 + p) 0) q) (ap (λ m. bit m q) (get_or_alike n (x * 64 + p) 0) ∙ ap (λ m. eqb m 1) (bit_at-zero q))
 
 -- ---- a step goes in
 

@@ -1,5 +1,4 @@
 pub mod Law
-pub mod Bits
 pub mod Tables
 pub mod Charts
 pub mod Chains

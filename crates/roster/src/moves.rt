@@ -31,13 +31,14 @@ impl Moves {
     }
 
     // Whether there is a step.
+    #[tactic(auto, unfolding(crate::specs::Moves::holds))]
     pub fn has(&self, from: u32, action: u32, to: u32) -> bool
         ensures { result ≡ holds self.now.sets from action to }
     {
-        if from >= 64 || action >= 33 || to >= 64 {
-            return false;
-        }
-        is_in(self.sets[action as usize * 64 + from as usize], to)
+        from < 64
+            && action < 33
+            && to < 64
+            && is_in(self.sets[action as usize * 64 + from as usize], to)
     }
 
     // The steps that a row tells.
