@@ -3,7 +3,6 @@ ghost use Rattle.std.specs.Prelude.{◌≡◌, ℕ, ◌<◌, ◌||◌, ◌==◌}
 ghost use Rattle.roster.specs.Bits.{bit};
 
 // Whether a number is in a set.
-#[tactic(auto, using(std::proofs::lemmas::Nat::Bits::shr_and_one))]
 pub fn is_in(set: u64, number: u32) -> bool
     requires { number < 64 }
     ensures { result ≡ bit set number }
