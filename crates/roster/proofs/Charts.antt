@@ -10,18 +10,7 @@ use Rattle.reader.specs.Row.{same_step}
 use Rattle.roster.specs.Bits.{bit}
 use Rattle.roster.specs.Moves.{in_chart, holds}
 
-pub in_chart_from : (p x q : ℕ) → p < 64 → x < 33 → q < 64 → in_chart p x q ≡ true
-in_chart_from p x q hp hx hq = and_from (ltb p 64) (ltb x 33 && ltb q 64) (lt-ltb p 64 hp) (and_from (ltb x 33) (ltb q 64) (lt-ltb x 33 hx) (lt-ltb q 64 hq))
-
 -- ---- what a chart holds
-
-pub holds_inside : (sets : List ℕ) (p x q : ℕ) → in_chart p x q ≡ true → holds sets p x q ≡ bit (get_or sets (x * 64 + p) 0) q
-unfolding holds
-holds_inside sets p x q within = ap (λ b. b && bit (get_or sets (x * 64 + p) 0) q) within
-
-pub holds_outside : (sets : List ℕ) (p x q : ℕ) → in_chart p x q ≡ false → holds sets p x q ≡ false
-unfolding holds
-holds_outside sets p x q beyond = and_left (in_chart p x q) (bit (get_or sets (x * 64 + p) 0) q) beyond
 
 -- empty sets hold nothing
 pub holds_none : (n p x q : ℕ) → holds (replicate n 0) p x q ≡ false

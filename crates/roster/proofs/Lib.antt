@@ -1,5 +1,5 @@
 pub mod Law
 pub mod Tables
 pub mod Charts
-pub mod Chains
+pub mod Search
 pub mod Answered

@@ -2,6 +2,7 @@
 use Rattle.std.proofs.Common.{◌≡◌, ℕ, zero, suc, ◌+◌, ◌-◌, ◌<◌, ◌≤◌, min, true, false, not, ◌&&◌, eqb, ltb, leb, ◌≢◌, ◌↔◌, List, [], ◌∷◌, length, get_or, take, drop, is_some, Some, None, Option, sym, refl, ap, ◌∙◌, subst, inl, inr, arith}
 use mathlib.Core.Bool.{false≢true}
 use Rattle.std.specs.List.{list_any}
+use Rattle.std.proofs.lemmas.Option.{none-some}
 use Rattle.std.proofs.lemmas.List.{get_or_past, get_or-take, get_or-drop, length-take}
 use Rattle.std.proofs.lemmas.List.Folds.{list_any_at}
 use Rattle.std.proofs.lemmas.List.Recursion.{or_from_places}
@@ -155,8 +156,5 @@ tables_lawful rs =
       some = held (λ e. 1 ≤ e.states) (λ r facts. facts.0) (take 16 rs);
       few = held (λ e. e.states ≤ 4096) (λ r facts. let few = facts.1 in omega arith) (take 16 rs);
       actions = held (λ e. e.actions ≤ 32) (λ r facts. omega arith) (take 16 rs);
-      coupled = λ s i k e. absurd (none_some e);
+      coupled = λ s i k e. absurd (none-some (i, k) e);
     }
-  where
-    none_some : {p : ℕ × ℕ} → ◌≡◌ {A = Option (ℕ × ℕ)} None (Some p) → ⊥
-    none_some e = false≢true (ap is_some e)

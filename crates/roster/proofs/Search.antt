@@ -1,22 +1,32 @@
--- What a chain over the numbers below a bound finds, said by `any` and `lowest`.
-use Rattle.std.proofs.Common.{◌≡◌, ℕ, zero, suc, ◌+◌, ◌<◌, ◌≤◌, Bool, true, false, ◌||◌, List, Some, None, Option, MatchOption, refl, ap, sym, ◌∙◌, inl, inr, arith}
-use Rattle.std.specs.List.{list_any, range_with_len, FoldsTo}
+-- Search among the numbers below a bound: what `any` and `lowest` find, and what a chain over these numbers finds.
+use Rattle.std.proofs.Common.{◌≡◌, ℕ, zero, suc, ◌+◌, ◌<◌, ◌≤◌, Bool, true, false, cond, ◌||◌, List, Some, None, Option, MatchOption, refl, ap, sym, ◌∙◌, inl, inr, arith}
 use Rattle.std.specs.Bool.{⊤}
 use Rattle.std.specs.Fn.{Called, CalledAt}
 use Rattle.std.specs.Iterator.{YieldsThen}
+use Rattle.std.specs.List.{list_any, range_with_len, FoldsTo}
+use Rattle.std.specs.declared.ops.Range.{Range}
 use Rattle.std.proofs.iter.Yields.{nat_range_steps}
+use Rattle.std.proofs.lemmas.Bool.{or_cases, or_left, or_right, or_parts, cases_eq, cond-true, cond-false, false≢true}
 use Rattle.std.proofs.lemmas.Iterator.{YieldsList-from_range, first_from_Range}
 use Rattle.std.proofs.lemmas.Iterator.Search.{any_from_yields_List}
-use Rattle.std.specs.declared.ops.Range.{Range}
 use denote.Param.Members.{Mut}
 use denote.Ref.{Bor}
-use Rattle.std.proofs.lemmas.Bool.{or_cases, or_left, or_right, cases_eq, false≢true}
-use Rattle.semantics.specs.System.{any}
+use Rattle.semantics.specs.System.{System, any, has_step, accepts}
 use Rattle.semantics.proofs.Search.{false_if, same_test, any_view, any_make}
 use Rattle.roster.specs.Layer.{lowest}
-use Rattle.roster.specs.Search.{lowest_none, lowest_here}
 
 -- ---- any
+
+-- beyond a bound that no number passes, nothing is found
+pub any_beyond : (f : ℕ → Bool) (n m : ℕ) → n ≤ m → ((x : ℕ) → f x ≡ true → x < n) → any f m ≡ any f n
+any_beyond f n m h k =
+    same_test (any f m) (any f n)
+    (λ t. let (x, i, s) = any_view f m t in any_make f n x (k x s) s)
+    (λ t. let (x, i, s) = any_view f n t in any_make f m x (omega arith) s)
+
+pub accepts_is : (e : System) (p x : ℕ) → accepts e p x ≡ has_step e p x
+unfolding accepts
+accepts_is e p x = refl
 
 listed_view : (f : ℕ → Bool) (a n : ℕ) → list_any f (range_with_len a n) ≡ true → (q : ℕ) × (q < a + n) × (f q ≡ true)
 listed_view f a zero e = absurd (false≢true e)
@@ -47,6 +57,23 @@ pub any_range : {F : Type 0} {g : Mut F (ℕ × Unit {0}) Bool} (f : ℕ → Boo
 any_range f n u j r ran calls = any_from_yields_List f u j r ran (YieldsList-from_range 0 n n refl (omega arith)) calls ∙ any_listed f n
 
 -- ---- the lowest
+
+lowest_none : (f : ℕ → Bool) (n : ℕ) → any f n ≡ false → lowest f n ≡ None
+unfolding lowest any
+lowest_none f zero e = refl
+lowest_none f (suc n) e =
+    let (here, below) = or_parts (f n) (any f n) e in
+    cond-false (any f n) (lowest f n) (cond (f n) (Some n) None) below ∙ cond-false (f n) (Some n) None here
+
+lowest_here : (f : ℕ → Bool) (n i : ℕ) → i < n → any f i ≡ false → f i ≡ true → lowest f n ≡ Some i
+unfolding lowest
+lowest_here f zero i h was t = absurd (omega arith)
+lowest_here f (suc n) i h was t =
+    elim (cases_eq i n) [
+      | inl e ↦ cond-false (any f n) (lowest f n) (cond (f n) (Some n) None) (ap (any f) (sym e) ∙ was) ∙ cond-true (f n) (Some n) None (ap f (sym e) ∙ t) ∙ ap Some (sym e)
+      | inr k ↦ let low : i < n = omega arith in
+          cond-true (any f n) (lowest f n) (cond (f n) (Some n) None) (any_make f n i low t) ∙ lowest_here f n i low was t
+    ]
 
 none_below : (f : ℕ → Bool) (n : ℕ) → ((k : ℕ) → 0 ≤ k → k < n → f k ≡ false) → any f n ≡ false
 none_below f n h = false_if (λ t. let (k, low, s) = any_view f n t in false≢true (sym (h k (omega arith) low) ∙ s))
