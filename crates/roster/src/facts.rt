@@ -10,7 +10,7 @@ use reader::Row;
 fn is_limited(row: &Row) -> bool
     ensures { result ≡ limited row.now }
 {
-    row.states >= 1 && row.states <= 64 && row.start < row.states && row.count <= 256
+    (1..=64).contains(&row.states) && row.start < row.states && row.count <= 256
 }
 
 // Whether some step that the row tells does not go from a state to a state under an action of the row.
@@ -31,6 +31,7 @@ fn has_stray_error(row: &Row) -> bool
         .any(|told| *told)
 }
 
+// Whether the row keeps its limits, and tells no stray step and no stray error.
 #[tactic(auto, unfolding(crate::specs::Rows::keeps))]
 fn keeps_all(row: &Row) -> bool
     ensures { result ≡ keeps row.now }
