@@ -40,6 +40,7 @@ fn keeps_all(row: &Row) -> bool
 }
 
 // Whether the row is one that a table may hold.
+#[tactic(auto, using(crate::proofs::Tables::keeps_facts_lem))]
 pub fn keeps_facts(row: &Row) -> bool
     ensures test { result ≡ keeps row.now }
     ensures says { (result ≡ true) ↔ Facts row.now }
