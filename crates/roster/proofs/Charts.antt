@@ -1,7 +1,7 @@
 -- The sets of a chart, as steps go in.
 use Rattle.std.proofs.Common.{◌≡◌, ℕ, ◌+◌, ◌*◌, ◌<◌, length, Bool, true, false, ◌&&◌, ◌||◌, eqb, ltb, List, replicate, get_or, set, sym, refl, ap, ◌∙◌, inl, inr, arith, get_or-set_other}
 use Rattle.std.proofs.Math.Bool.{or-false}
-use Rattle.std.proofs.lemmas.Bool.{lt-ltb, ltb-true, eq-eqb, eqb-true, and_parts, and_from, and_left, and_right, cases_eq, cases_Bool}
+use Rattle.std.proofs.lemmas.Bool.{ltb-true, eq-eqb, eqb-true, and_parts, and_right, cases_eq, cases_Bool}
 use Rattle.std.proofs.lemmas.Nat.Bits.{bit_at-zero}
 use Rattle.std.proofs.lemmas.Grind.{get_or-set_at}
 use Rattle.reader.proofs.Rows.{get_or_alike}

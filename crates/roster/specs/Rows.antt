@@ -1,4 +1,7 @@
 -- system_of r        the system that the row r tells
+-- stray_step r k     does the k-th step of the row r go from no state, to no state, or under no action of the row?
+-- stray_error r      does the row r tell an error that is no state?
+-- limited r          are the numbers of the row r within their limits?
 -- keeps r            does the row r keep the limits and facts of a table?
 -- station_of r       the station of the row r: its system if it keeps them, else none
 -- station_at rs s    the station of the s-th row of rs, counted from 0

@@ -6,7 +6,8 @@ ghost use Rattle.roster.specs.Moves.{in_chart, holds, Charted};
 use crate::mask::{is_in, with};
 use reader::{Row, Step};
 
-// For each of the actions 0 to 32 and each of 64 states, the set of states to which a step leads.
+// For each of the actions 0 to 32 and each of 64 states, the set of states to which a step leads. They stand in one
+// plain array of 33 x 64 places, since a roster uses no heap.
 #[derive(Clone, Copy)]
 pub struct Moves {
     sets: [u64; 2112],
