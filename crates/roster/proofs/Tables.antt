@@ -7,6 +7,7 @@ use Rattle.std.proofs.lemmas.List.{get_or_past, get_or-take, get_or-drop, length
 use Rattle.std.proofs.lemmas.List.Folds.{list_any_at}
 use Rattle.std.proofs.lemmas.List.Recursion.{or_from_places}
 use Rattle.std.proofs.lemmas.Bool.{and_parts, and_from, or_cases, not-true, not_from_false, both_ways, cases_Bool, cases_lt, leb-true, le-leb, ltb-true, lt-ltb, eqb-true, cond-true, cond-false}
+use Rattle.std.proofs.lemmas.Bool.Decides.{nat_tests}
 use Rattle.semantics.specs.declared.way.Way.{Way}
 use Rattle.semantics.specs.declared.way.Way.TheVariants.{Absent, Input, Output}
 use Rattle.semantics.specs.System.{System, WellFormed, any}
@@ -14,7 +15,7 @@ use Rattle.semantics.proofs.Search.{false_if, any_view, any_make}
 use Rattle.semantics.proofs.Ways.{input≢absent, output≢absent}
 use Rattle.reader.specs.declared.row.Row.{Row}
 use Rattle.reader.specs.declared.row.Step.{Step}
-use Rattle.reader.specs.Row.{unused, way_of, error_at, listed, same_step, told, declared, usable, fitting, ErrorsFit, Facts}
+use Rattle.reader.specs.Row.{unused, way_of, error_at, listed, same_step, told, declared, usable, fitting, StepsFit, ErrorsFit, Facts}
 use Rattle.reader.proofs.Contents.{same_step_lem}
 use Rattle.roster.specs.Meaning.{Lawful, filled}
 use Rattle.roster.specs.Rows.{system_of, stray_step, stray_error, limited, keeps, station_of, station_at, table_meaning}
@@ -43,30 +44,23 @@ no_stray_error r fails =
     or_from_places (list_any (λ b. b)) (λ b. b) refl (λ x xs. refl) (drop r.states r.errors) false
     (λ i h. rw get_or-drop (false_if (λ t. let low = fails (r.states + i) t in omega arith)))
 
+no_stray_step : (r : Row) → StepsFit r → any (stray_step r) r.count ≡ false
+no_stray_step r fits = false_if (λ t. let (k, h, s) = any_view (stray_step r) r.count t in both_ways (fitting r (get_or r.steps k unused)) (not-true _ s) (fits k h))
+
+limited_is : (r : Row) → (limited r ≡ true) ↔ ((1 ≤ r.states) × (r.states ≤ 64) × (r.start < r.states) × (r.count ≤ 256))
+limited_is r = grind (arith, nat_tests)
+
 pub keeps_facts_lem : (r : Row) → (keeps r ≡ true) ↔ Facts r
 unfolding keeps
 keeps_facts_lem r = (
   λ e.
       let (l, w) = and_parts (limited r) (not (any (stray_step r) r.count) && not (stray_error r)) e in
-      let (some, l') = and_parts (leb 1 r.states) (leb r.states 64 && (ltb r.start r.states && leb r.count 256)) l in
-      let (few, l'') = and_parts (leb r.states 64) (ltb r.start r.states && leb r.count 256) l' in
-      let (begins, room) = and_parts (ltb r.start r.states) (leb r.count 256) l'' in
-      let (steps, errors) = and_parts (not (any (stray_step r) r.count)) (not (stray_error r)) w in (
-        leb-true 1 r.states some,
-        leb-true r.states 64 few,
-        ltb-true r.start r.states begins,
-        leb-true r.count 256 room,
-        steps_fit r (not-true (any (stray_step r) r.count) steps),
-        errors_fit r (not-true (stray_error r) errors),
-      ),
+      let (steps, errors) = and_parts (not (any (stray_step r) r.count)) (not (stray_error r)) w in
+      let (some, few, begins, room) = (limited_is r).0 l in
+      (some, few, begins, room, steps_fit r (not-true _ steps), errors_fit r (not-true _ errors)),
   λ f.
       let (some, few, begins, room, fits, fails) = f in
-      and_from _ _
-      (and_from _ _ (le-leb 1 r.states some) (and_from _ _ (le-leb r.states 64 few) (and_from _ _ (lt-ltb r.start r.states begins) (le-leb r.count 256 room))))
-      (and_from _ _
-      (not_from_false (any (stray_step r) r.count)
-      (false_if (λ t. let (k, h, s) = any_view (stray_step r) r.count t in both_ways (fitting r (get_or r.steps k unused)) (not-true _ s) (fits k h))))
-      (not_from_false (stray_error r) (no_stray_error r fails))),
+      and_from _ _ ((limited_is r).1 (some, few, begins, room)) (and_from _ _ (not_from_false _ (no_stray_step r fits)) (not_from_false _ (no_stray_error r fails))),
 )
 
 -- ---- the system
