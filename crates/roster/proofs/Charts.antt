@@ -1,7 +1,6 @@
 -- The sets of a chart, as steps go in.
-use Rattle.std.proofs.Common.{◌≡◌, ℕ, ◌+◌, ◌*◌, ◌<◌, length, Bool, true, false, ◌&&◌, ◌||◌, eqb, ltb, List, replicate, get_or, set, sym, refl, ap, ◌∙◌, inl, inr, arith, get_or-set_other}
-use Rattle.std.proofs.Math.Bool.{or-false}
-use Rattle.std.proofs.lemmas.Bool.{ltb-true, eq-eqb, eqb-true, and_parts, and_right, cases_eq, cases_Bool}
+use Rattle.std.proofs.Common.{◌≡◌, ℕ, ◌+◌, ◌*◌, ◌<◌, length, false, ◌&&◌, ◌||◌, eqb, List, replicate, get_or, set, sym, ap, ◌∙◌, inl, inr, arith, get_or-set_other}
+use Rattle.std.proofs.lemmas.Bool.{and_right, cases_eq}
 use Rattle.std.proofs.lemmas.Bool.Decides.{nat_tests}
 use Rattle.std.proofs.lemmas.Nat.Bits.{bit_at-zero}
 use Rattle.std.proofs.lemmas.Grind.{get_or-set_at}
@@ -21,17 +20,12 @@ holds_none n p x q =
 
 -- ---- a step goes in
 
--- the state t more in the set for the state f and the action a
-pub holds_more : (sets : List ℕ) (f a t v : ℕ) → f < 64 → a * 64 + f < length sets → ((q : ℕ) → bit v q ≡ (bit (get_or sets (a * 64 + f) 0) q || eqb t q)) → (p x q : ℕ)
-    → holds (set sets (a * 64 + f) v) p x q ≡ (holds sets p x q || (in_chart p x q && (eqb f p && (eqb a x && eqb t q))))
+-- the numbers f, a and t of the step s went through casts, and v is the set for f and a with t more
+pub holds_put : (sets : List ℕ) (s : Step) (f a t v : ℕ) → f ≡ s.from → a ≡ s.action → t ≡ s.to → f < 64 → a * 64 + f < length sets → ((q : ℕ) → bit v q ≡ (bit (get_or sets (a * 64 + f) 0) q || eqb t q)) → (p x q : ℕ)
+    → holds (set sets (a * 64 + f) v) p x q ≡ (holds sets p x q || (in_chart p x q && same_step s (record { from = p; action = x; to = q })))
 unfolding holds
-holds_more sets f a t v low room more p x q =
+holds_put sets s f a t v ef ea et low room more p x q =
     elim (cases_eq (a * 64 + f) (x * 64 + p)) [
       | inl e ↦ (let new = get_or-set_at sets (a * 64 + f) (x * 64 + p) v 0 (sym e) room in let bits = more q in grind (arith, nat_tests))
       | inr apart ↦ (let old = get_or-set_other sets (a * 64 + f) (x * 64 + p) v 0 (λ e. apart (sym e)) in grind (arith, nat_tests))
     ]
-
--- the same, where the numbers of the step went through casts
-pub holds_put : (sets : List ℕ) (s : Step) (f a t v : ℕ) → f ≡ s.from → a ≡ s.action → t ≡ s.to → f < 64 → a * 64 + f < length sets → ((q : ℕ) → bit v q ≡ (bit (get_or sets (a * 64 + f) 0) q || eqb t q)) → (p x q : ℕ)
-    → holds (set sets (a * 64 + f) v) p x q ≡ (holds sets p x q || (in_chart p x q && same_step s (record { from = p; action = x; to = q })))
-holds_put sets s f a t v ef ea et low room more p x q = rw (← ef, ← ea, ← et) (holds_more sets f a t v low room more p x q)

@@ -1,12 +1,12 @@
 -- The system of a row that keeps the limits and facts of a table, and the stations of a list of rows.
-use Rattle.std.proofs.Common.{◌≡◌, ℕ, zero, suc, ◌+◌, ◌-◌, ◌<◌, ◌≤◌, min, true, false, not, ◌&&◌, eqb, ltb, leb, ◌≢◌, ◌↔◌, List, [], ◌∷◌, length, get_or, take, drop, is_some, Some, None, sym, refl, ap, ◌∙◌, subst, inl, inr, arith}
+use Rattle.std.proofs.Common.{◌≡◌, ℕ, zero, suc, ◌+◌, ◌-◌, ◌<◌, ◌≤◌, min, Bool, true, false, not, ◌&&◌, eqb, ltb, leb, ◌≢◌, ◌↔◌, List, [], ◌∷◌, length, get_or, take, drop, is_some, Some, None, sym, refl, ap, ◌∙◌, subst, inl, inr, arith}
 use mathlib.Core.Bool.{false≢true}
 use Rattle.std.specs.List.{list_any}
 use Rattle.std.proofs.lemmas.Option.{none-some}
 use Rattle.std.proofs.lemmas.List.{get_or_past, get_or-take, get_or-drop, length-take}
 use Rattle.std.proofs.lemmas.List.Folds.{list_any_at}
 use Rattle.std.proofs.lemmas.List.Recursion.{or_from_places}
-use Rattle.std.proofs.lemmas.Bool.{and_parts, and_from, or_cases, not-true, not_from_false, both_ways, cases_Bool, cases_lt, leb-true, le-leb, ltb-true, lt-ltb, eqb-true, cond-true, cond-false}
+use Rattle.std.proofs.lemmas.Bool.{and_parts, and_from, or_cases, not-true, not_from_false, both_ways, cases_Bool, cases_lt, leb-true, ltb-true, eqb-true, cond-true, cond-false}
 use Rattle.std.proofs.lemmas.Bool.Decides.{nat_tests}
 use Rattle.semantics.specs.declared.way.Way.{Way}
 use Rattle.semantics.specs.declared.way.Way.TheVariants.{Absent, Input, Output}
@@ -15,37 +15,33 @@ use Rattle.semantics.proofs.Search.{false_if, any_view, any_make}
 use Rattle.semantics.proofs.Ways.{input≢absent, output≢absent}
 use Rattle.reader.specs.declared.row.Row.{Row}
 use Rattle.reader.specs.declared.row.Step.{Step}
-use Rattle.reader.specs.Row.{unused, way_of, error_at, listed, same_step, told, declared, usable, fitting, StepsFit, ErrorsFit, Facts}
+use Rattle.reader.specs.Row.{unused, way_of, listed, same_step, told, declared, usable, fitting, StepsFit, ErrorsFit, Facts}
 use Rattle.reader.proofs.Contents.{same_step_lem}
 use Rattle.roster.specs.Meaning.{Lawful, filled}
 use Rattle.roster.specs.Rows.{system_of, stray_step, stray_error, limited, keeps, station_of, station_at, table_meaning}
 
-steps_fit : (r : Row) → any (stray_step r) r.count ≡ false → (k : ℕ) → k < r.count → fitting r (get_or r.steps k unused) ≡ true
-steps_fit r none k h =
-    elim (cases_Bool (fitting r (get_or r.steps k unused))) [
-      | inl t ↦ t
-      | inr t ↦ absurd (both_ways (any (stray_step r) r.count) none (any_make (stray_step r) r.count k h (not_from_false _ t)))
-    ]
+steps_fit : (r : Row) → any (stray_step r) r.count ≡ false → StepsFit r
+steps_fit r none k h = grind (arith, any_make (stray_step r) r.count k h)
 
-errors_fit : (r : Row) → stray_error r ≡ false → (s : ℕ) → error_at r s ≡ true → s < r.states
+no_stray_step : (r : Row) → StepsFit r → any (stray_step r) r.count ≡ false
+no_stray_step r fits = false_if (λ t. let (k, h, s) = any_view (stray_step r) r.count t in both_ways (fitting r (get_or r.steps k unused)) (not-true _ s) (fits k h))
+
+errors_fit : (r : Row) → stray_error r ≡ false → ErrorsFit r
 errors_fit r none s t =
     elim (cases_lt s r.states) [
       | inl h ↦ h
       | inr h ↦
           (let told : get_or (drop r.states r.errors) (s - r.states) false ≡ true = rw get_or-drop (ap (λ k. get_or r.errors k false) (omega arith) ∙ t) in
-          elim (cases_lt (s - r.states) (length (drop r.states r.errors))) [
-            | inl k ↦ absurd (both_ways (stray_error r) none (list_any_at (λ b. b) (drop r.states r.errors) (s - r.states) false k told))
-            | inr k ↦ absurd (both_ways (get_or (drop r.states r.errors) (s - r.states) false) (get_or_past (drop r.states r.errors) (s - r.states) false k) told)
-          ])
+          absurd (false≢true (sym none ∙ list_any_at (λ b. b) (drop r.states r.errors) (s - r.states) false (within (drop r.states r.errors) (s - r.states) told) told)))
     ]
+  where
+    within : (bs : List Bool) (i : ℕ) → get_or bs i false ≡ true → i < length bs
+    within bs i t = grind (arith, get_or_past)
 
 no_stray_error : (r : Row) → ErrorsFit r → stray_error r ≡ false
 no_stray_error r fails =
     or_from_places (list_any (λ b. b)) (λ b. b) refl (λ x xs. refl) (drop r.states r.errors) false
     (λ i h. rw get_or-drop (false_if (λ t. let low = fails (r.states + i) t in omega arith)))
-
-no_stray_step : (r : Row) → StepsFit r → any (stray_step r) r.count ≡ false
-no_stray_step r fits = false_if (λ t. let (k, h, s) = any_view (stray_step r) r.count t in both_ways (fitting r (get_or r.steps k unused)) (not-true _ s) (fits k h))
 
 limited_is : (r : Row) → (limited r ≡ true) ↔ ((1 ≤ r.states) × (r.states ≤ 64) × (r.start < r.states) × (r.count ≤ 256))
 limited_is r = grind (arith, nat_tests)
