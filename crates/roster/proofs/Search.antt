@@ -1,5 +1,5 @@
 -- Search among the numbers below a bound: what `any` and `lowest` find, and what a chain over these numbers finds.
-use Rattle.std.proofs.Common.{◌≡◌, ℕ, zero, suc, ◌+◌, ◌<◌, ◌≤◌, Bool, true, false, cond, List, Some, None, Option, MatchOption, refl, ap, sym, ◌∙◌, inl, inr, arith}
+use Rattle.std.proofs.Common.{◌≡◌, ℕ, zero, suc, ◌+◌, ◌<◌, ◌≤◌, Bool, true, false, cond, List, length, get_or, Some, None, Option, MatchOption, refl, ap, sym, ◌∙◌, inl, inr, arith}
 use Rattle.std.specs.Bool.{⊤}
 use Rattle.std.specs.Fn.{Called, CalledAt}
 use Rattle.std.specs.Iterator.{YieldsThen}
@@ -7,6 +7,8 @@ use Rattle.std.specs.List.{list_any, range_with_len, FoldsTo}
 use Rattle.std.specs.declared.ops.Range.{Range}
 use Rattle.std.proofs.iter.Yields.{nat_range_steps}
 use Rattle.std.proofs.lemmas.Bool.{or_cases, or_left, or_right, or_parts, cases_eq, cond-true, cond-false, false≢true}
+use Rattle.std.proofs.lemmas.List.FromFn.{length-range_with_len, get_or-range_with_len}
+use Rattle.std.proofs.lemmas.List.Recursion.{or_is}
 use Rattle.std.proofs.lemmas.Iterator.{YieldsList-from_range, first_from_Range}
 use Rattle.std.proofs.lemmas.Iterator.Search.{any_from_yields_List}
 use denote.Param.Members.{Mut}
@@ -28,33 +30,21 @@ pub accepts_is : (e : System) (p x : ℕ) → accepts e p x ≡ has_step e p x
 unfolding accepts
 accepts_is e p x = refl
 
-listed_view : (f : ℕ → Bool) (a n : ℕ) → list_any f (range_with_len a n) ≡ true → (q : ℕ) × (q < a + n) × (f q ≡ true)
-listed_view f a zero e = absurd (false≢true e)
-listed_view f a (suc n) e =
-    elim (or_cases (f a) (list_any f (range_with_len (a + 1) n)) e) [
-      | inl t ↦ (a, omega arith, t)
-      | inr t ↦ let (q, h, k) = listed_view f (a + 1) n t in (q, omega arith, k)
-    ]
-
-listed_make : (f : ℕ → Bool) (a n q : ℕ) → a ≤ q → q < a + n → f q ≡ true → list_any f (range_with_len a n) ≡ true
-listed_make f a zero q from to t = absurd (omega arith)
-listed_make f a (suc n) q from to t =
-    elim (cases_eq q a) [
-      | inl e ↦ or_left (f a) (list_any f (range_with_len (a + 1) n)) (ap f (sym e) ∙ t)
-      | inr k ↦ or_right (f a) (list_any f (range_with_len (a + 1) n)) (listed_make f (a + 1) n q (omega arith) (omega arith) t)
-    ]
-
-any_listed : (f : ℕ → Bool) (n : ℕ) → list_any f (range_with_len 0 n) ≡ any f n
+any_listed : (f : ℕ → Bool) (n : ℕ) → any f n ≡ list_any f (range_with_len 0 n)
 any_listed f n =
-    same_test (list_any f (range_with_len 0 n)) (any f n)
-    (λ t. let (q, h, k) = listed_view f 0 n t in any_make f n q (omega arith) k)
-    (λ t. let (q, h, k) = any_view f n t in listed_make f 0 n q (omega arith) (omega arith) k)
+    or_is (list_any f) f refl (λ x xs. refl) (range_with_len 0 n) 0 (any f n)
+    (λ t. let (q, h, k) = any_view f n t in (q, omega (arith, length-range_with_len 0 n), ap f (place q h) ∙ k))
+    (λ none i h. let low : i < n = omega (arith, length-range_with_len 0 n) in
+    false_if (λ t. false≢true (sym none ∙ any_make f n i low (sym (ap f (place i low)) ∙ t))))
+  where
+    place : (i : ℕ) → i < n → get_or (range_with_len 0 n) i 0 ≡ i
+    place i h = omega (arith, get_or-range_with_len 0 n i 0 h)
 
 -- what a call of `any` over the numbers below n answers, whose closure asks the test f
 pub any_range : {F : Type 0} {g : Mut F (ℕ × Unit {0}) Bool} (f : ℕ → Bool) (n : ℕ) (u : Range ℕ) (j : F) (r : Bool)
     → (xs : List ℕ) × (o : Option ℕ) × (l : F) × YieldsThen nat_range_steps (record { start = 0; end = n }) xs o u × FoldsTo (λ p x q. Called g p (x, tt) false q) j xs l × MatchOption o (r ≡ false) (λ x. (r ≡ true) × ((h : F) × Called g l (x, tt) true h))
     → ((x : ℕ) (b : Bool) (q : F) → Called g j (x, tt) b q → (q ≡ j) × (b ≡ f x)) → r ≡ any f n
-any_range f n u j r ran calls = any_from_yields_List f u j r ran (YieldsList-from_range 0 n n refl (omega arith)) calls ∙ any_listed f n
+any_range f n u j r ran calls = any_from_yields_List f u j r ran (YieldsList-from_range 0 n n refl (omega arith)) calls ∙ sym (any_listed f n)
 
 -- ---- the lowest
 
