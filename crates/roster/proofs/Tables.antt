@@ -5,7 +5,7 @@ use Rattle.std.specs.List.{list_any}
 use Rattle.std.proofs.lemmas.Option.{none-some}
 use Rattle.std.proofs.lemmas.List.{get_or_past, get_or-take, get_or-drop, length-take}
 use Rattle.std.proofs.lemmas.List.Folds.{list_any_at}
-use Rattle.std.proofs.lemmas.List.Recursion.{or_from_places}
+use Rattle.std.proofs.lemmas.List.Recursion.{or_is, or_from_places}
 use Rattle.std.proofs.lemmas.Bool.{and_parts, and_from, or_cases, not-true, not_from_false, both_ways, cases_Bool, cases_lt, leb-true, ltb-true, eqb-true, cond-true, cond-false}
 use Rattle.std.proofs.lemmas.Bool.Decides.{nat_tests}
 use Rattle.semantics.specs.declared.way.Way.{Way}
@@ -22,6 +22,16 @@ use Rattle.roster.specs.Rows.{system_of, stray_step, stray_error, limited, keeps
 
 steps_fit : (r : Row) → any (stray_step r) r.count ≡ false → StepsFit r
 steps_fit r none k h = grind (arith, any_make (stray_step r) r.count k h)
+
+-- asked of the steps one after another
+pub stray_steps : (r : Row) → r.count ≤ length r.steps → list_any (λ s. not (fitting r s)) (take r.count r.steps) ≡ any (stray_step r) r.count
+stray_steps r room =
+    sym
+    (or_is (list_any (λ s. not (fitting r s))) (λ s. not (fitting r s)) refl (λ x xs. refl) (take r.count r.steps) unused (any (stray_step r) r.count)
+    (λ t. let (k, h, s) = any_view (stray_step r) r.count t in (k, omega (arith, length-take r.count r.steps), ap (λ u. not (fitting r u)) (get_or-take r.count r.steps k unused h) ∙ s))
+    (λ none k h.
+    let low : k < r.count = omega (arith, length-take r.count r.steps) in
+    false_if (λ t. both_ways (any (stray_step r) r.count) none (any_make (stray_step r) r.count k low (sym (ap (λ u. not (fitting r u)) (get_or-take r.count r.steps k unused low)) ∙ t)))))
 
 no_stray_step : (r : Row) → StepsFit r → any (stray_step r) r.count ≡ false
 no_stray_step r fits = false_if (λ t. let (k, h, s) = any_view (stray_step r) r.count t in both_ways (fitting r (get_or r.steps k unused)) (not-true _ s) (fits k h))

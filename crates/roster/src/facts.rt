@@ -18,7 +18,7 @@ fn has_stray_step(row: &Row) -> bool
     requires { row.now.count ≤ 256 }
     ensures { result ≡ any (stray_step row.now) row.now.count }
 {
-    (0..row.count).any(|place| !row.fits(row.steps[place]))
+    row.steps[..row.count].iter().any(|step| !row.fits(*step))
 }
 
 // Whether the row tells an error that is no state.
