@@ -1,4 +1,5 @@
 pub mod Law
-pub mod Bits
 pub mod Tables
 pub mod Charts
+pub mod Search
+pub mod Answered

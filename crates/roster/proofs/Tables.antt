@@ -1,8 +1,13 @@
 -- The system of a row that keeps the limits and facts of a table, and the stations of a list of rows.
-use Rattle.std.proofs.Common.{◌≡◌, ℕ, zero, suc, ◌-◌, ◌<◌, ◌≤◌, min, true, false, not, ◌&&◌, eqb, ltb, leb, ◌≢◌, ◌↔◌, List, [], ◌∷◌, length, get_or, take, is_some, Some, None, Option, sym, refl, ap, ◌∙◌, subst, inl, inr, arith}
+use Rattle.std.proofs.Common.{◌≡◌, ℕ, zero, suc, ◌+◌, ◌-◌, ◌<◌, ◌≤◌, min, Bool, true, false, not, ◌&&◌, eqb, ltb, leb, ◌≢◌, ◌↔◌, List, [], ◌∷◌, length, get_or, take, drop, is_some, Some, None, sym, refl, ap, ◌∙◌, subst, inl, inr, arith}
 use mathlib.Core.Bool.{false≢true}
-use Rattle.std.proofs.lemmas.List.{get_or_past, get_or-take, length-take}
-use Rattle.std.proofs.lemmas.Bool.{and_parts, and_from, or_cases, not-true, not_from_false, both_ways, cases_Bool, cases_lt, leb-true, le-leb, ltb-true, lt-ltb, le-ltb, eqb-true, cond-true, cond-false}
+use Rattle.std.specs.List.{list_any}
+use Rattle.std.proofs.lemmas.Option.{none-some}
+use Rattle.std.proofs.lemmas.List.{get_or_past, get_or-take, get_or-drop, length-take}
+use Rattle.std.proofs.lemmas.List.Folds.{list_any_at}
+use Rattle.std.proofs.lemmas.List.Recursion.{or_is, or_from_places}
+use Rattle.std.proofs.lemmas.Bool.{and_parts, and_from, or_cases, not-true, not_from_false, both_ways, cases_Bool, cases_lt, leb-true, ltb-true, eqb-true, cond-true, cond-false}
+use Rattle.std.proofs.lemmas.Bool.Decides.{nat_tests}
 use Rattle.semantics.specs.declared.way.Way.{Way}
 use Rattle.semantics.specs.declared.way.Way.TheVariants.{Absent, Input, Output}
 use Rattle.semantics.specs.System.{System, WellFormed, any}
@@ -10,59 +15,58 @@ use Rattle.semantics.proofs.Search.{false_if, any_view, any_make}
 use Rattle.semantics.proofs.Ways.{input≢absent, output≢absent}
 use Rattle.reader.specs.declared.row.Row.{Row}
 use Rattle.reader.specs.declared.row.Step.{Step}
-use Rattle.reader.specs.Row.{unused, way_of, error_at, listed, same_step, told, declared, usable, fitting, Facts}
+use Rattle.reader.specs.Row.{unused, way_of, listed, same_step, told, declared, usable, fitting, StepsFit, ErrorsFit, Facts}
 use Rattle.reader.proofs.Contents.{same_step_lem}
 use Rattle.roster.specs.Meaning.{Lawful, filled}
 use Rattle.roster.specs.Rows.{system_of, stray_step, stray_error, limited, keeps, station_of, station_at, table_meaning}
 
-steps_fit : (r : Row) → any (stray_step r) r.count ≡ false → (k : ℕ) → k < r.count → fitting r (get_or r.steps k unused) ≡ true
-steps_fit r none k h =
-    elim (cases_Bool (fitting r (get_or r.steps k unused))) [
-      | inl t ↦ t
-      | inr t ↦ absurd (both_ways (any (stray_step r) r.count) none (any_make (stray_step r) r.count k h (not_from_false _ t)))
-    ]
+steps_fit : (r : Row) → any (stray_step r) r.count ≡ false → StepsFit r
+steps_fit r none k h = grind (arith, any_make (stray_step r) r.count k h)
 
-errors_fit : (r : Row) → any (stray_error r) (length r.errors) ≡ false → (s : ℕ) → error_at r s ≡ true → s < r.states
+-- asked of the steps one after another
+pub stray_steps : (r : Row) → r.count ≤ length r.steps → list_any (λ s. not (fitting r s)) (take r.count r.steps) ≡ any (stray_step r) r.count
+stray_steps r room =
+    sym
+    (or_is (list_any (λ s. not (fitting r s))) (λ s. not (fitting r s)) refl (λ x xs. refl) (take r.count r.steps) unused (any (stray_step r) r.count)
+    (λ t. let (k, h, s) = any_view (stray_step r) r.count t in (k, omega (arith, length-take r.count r.steps), ap (λ u. not (fitting r u)) (get_or-take r.count r.steps k unused h) ∙ s))
+    (λ none k h.
+    let low : k < r.count = omega (arith, length-take r.count r.steps) in
+    false_if (λ t. both_ways (any (stray_step r) r.count) none (any_make (stray_step r) r.count k low (sym (ap (λ u. not (fitting r u)) (get_or-take r.count r.steps k unused low)) ∙ t)))))
+
+no_stray_step : (r : Row) → StepsFit r → any (stray_step r) r.count ≡ false
+no_stray_step r fits = false_if (λ t. let (k, h, s) = any_view (stray_step r) r.count t in both_ways (fitting r (get_or r.steps k unused)) (not-true _ s) (fits k h))
+
+errors_fit : (r : Row) → stray_error r ≡ false → ErrorsFit r
 errors_fit r none s t =
     elim (cases_lt s r.states) [
       | inl h ↦ h
-      | inr h ↦ elim (cases_lt s (length r.errors)) [
-        | inl k ↦ absurd
-            (both_ways (any (stray_error r) (length r.errors)) none
-            (any_make (stray_error r) (length r.errors) s k (and_from (error_at r s) (not (ltb s r.states)) t (not_from_false (ltb s r.states) (le-ltb s r.states h)))))
-        | inr k ↦ absurd (both_ways (error_at r s) (get_or_past r.errors s false k) t)
-      ]
+      | inr h ↦
+          (let told : get_or (drop r.states r.errors) (s - r.states) false ≡ true = rw get_or-drop (ap (λ k. get_or r.errors k false) (omega arith) ∙ t) in
+          absurd (false≢true (sym none ∙ list_any_at (λ b. b) (drop r.states r.errors) (s - r.states) false (within (drop r.states r.errors) (s - r.states) told) told)))
     ]
+  where
+    within : (bs : List Bool) (i : ℕ) → get_or bs i false ≡ true → i < length bs
+    within bs i t = grind (arith, get_or_past)
+
+no_stray_error : (r : Row) → ErrorsFit r → stray_error r ≡ false
+no_stray_error r fails =
+    or_from_places (list_any (λ b. b)) (λ b. b) refl (λ x xs. refl) (drop r.states r.errors) false
+    (λ i h. rw get_or-drop (false_if (λ t. let low = fails (r.states + i) t in omega arith)))
+
+limited_is : (r : Row) → (limited r ≡ true) ↔ ((1 ≤ r.states) × (r.states ≤ 64) × (r.start < r.states) × (r.count ≤ 256))
+limited_is r = grind (arith, nat_tests)
 
 pub keeps_facts_lem : (r : Row) → (keeps r ≡ true) ↔ Facts r
 unfolding keeps
 keeps_facts_lem r = (
   λ e.
-      let (l, w) = and_parts (limited r) (not (any (stray_step r) r.count) && not (any (stray_error r) (length r.errors))) e in
-      let (some, l') = and_parts (leb 1 r.states) (leb r.states 64 && (ltb r.start r.states && leb r.count 256)) l in
-      let (few, l'') = and_parts (leb r.states 64) (ltb r.start r.states && leb r.count 256) l' in
-      let (begins, room) = and_parts (ltb r.start r.states) (leb r.count 256) l'' in
-      let (steps, errors) = and_parts (not (any (stray_step r) r.count)) (not (any (stray_error r) (length r.errors))) w in (
-        leb-true 1 r.states some,
-        leb-true r.states 64 few,
-        ltb-true r.start r.states begins,
-        leb-true r.count 256 room,
-        steps_fit r (not-true (any (stray_step r) r.count) steps),
-        errors_fit r (not-true (any (stray_error r) (length r.errors)) errors),
-      ),
+      let (l, w) = and_parts (limited r) (not (any (stray_step r) r.count) && not (stray_error r)) e in
+      let (steps, errors) = and_parts (not (any (stray_step r) r.count)) (not (stray_error r)) w in
+      let (some, few, begins, room) = (limited_is r).0 l in
+      (some, few, begins, room, steps_fit r (not-true _ steps), errors_fit r (not-true _ errors)),
   λ f.
       let (some, few, begins, room, fits, fails) = f in
-      and_from _ _
-      (and_from _ _ (le-leb 1 r.states some) (and_from _ _ (le-leb r.states 64 few) (and_from _ _ (lt-ltb r.start r.states begins) (le-leb r.count 256 room))))
-      (and_from _ _
-      (not_from_false (any (stray_step r) r.count)
-      (false_if (λ t. let (k, h, s) = any_view (stray_step r) r.count t in both_ways (fitting r (get_or r.steps k unused)) (not-true _ s) (fits k h))))
-      (not_from_false (any (stray_error r) (length r.errors))
-      (false_if
-      (λ t.
-      let (s, h, k) = any_view (stray_error r) (length r.errors) t in
-      let (e, n) = and_parts (error_at r s) (not (ltb s r.states)) k in
-      both_ways (ltb s r.states) (not-true (ltb s r.states) n) (lt-ltb s r.states (fails s e)))))),
+      and_from _ _ ((limited_is r).1 (some, few, begins, room)) (and_from _ _ (not_from_false _ (no_stray_step r fits)) (not_from_false _ (no_stray_error r fails))),
 )
 
 -- ---- the system
@@ -152,8 +156,5 @@ tables_lawful rs =
       some = held (λ e. 1 ≤ e.states) (λ r facts. facts.0) (take 16 rs);
       few = held (λ e. e.states ≤ 4096) (λ r facts. let few = facts.1 in omega arith) (take 16 rs);
       actions = held (λ e. e.actions ≤ 32) (λ r facts. omega arith) (take 16 rs);
-      coupled = λ s i k e. absurd (none_some e);
+      coupled = λ s i k e. absurd (none-some (i, k) e);
     }
-  where
-    none_some : {p : ℕ × ℕ} → ◌≡◌ {A = Option (ℕ × ℕ)} None (Some p) → ⊥
-    none_some e = false≢true (ap is_some e)

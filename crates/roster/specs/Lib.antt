@@ -6,5 +6,3 @@ pub mod Rows
 pub mod Moves
 pub mod Layered
 pub mod Joints
-pub mod Search
-pub mod Answered

@@ -7,6 +7,7 @@ mod facts;
 mod joint;
 mod mask;
 mod moves;
+mod pairs;
 mod roster;
 
 pub use coupled::Coupled;

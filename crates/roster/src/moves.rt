@@ -6,7 +6,8 @@ ghost use Rattle.roster.specs.Moves.{in_chart, holds, Charted};
 use crate::mask::{is_in, with};
 use reader::{Row, Step};
 
-// For each of the actions 0 to 32 and each of 64 states, the set of states to which a step leads.
+// For each of the actions 0 to 32 and each of 64 states, the set of states to which a step leads. They stand in one
+// plain array of 33 x 64 places, since a roster uses no heap.
 #[derive(Clone, Copy)]
 pub struct Moves {
     sets: [u64; 2112],
@@ -31,13 +32,14 @@ impl Moves {
     }
 
     // Whether there is a step.
+    #[tactic(auto, unfolding(crate::specs::Moves::holds))]
     pub fn has(&self, from: u32, action: u32, to: u32) -> bool
         ensures { result ≡ holds self.now.sets from action to }
     {
-        if from >= 64 || action >= 33 || to >= 64 {
-            return false;
-        }
-        is_in(self.sets[action as usize * 64 + from as usize], to)
+        from < 64
+            && action < 33
+            && to < 64
+            && is_in(self.sets[action as usize * 64 + from as usize], to)
     }
 
     // The steps that a row tells.

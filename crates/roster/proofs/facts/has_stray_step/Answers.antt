@@ -1,16 +1,12 @@
-use Rattle.std.proofs.Common.{sym}
-use Rattle.semantics.proofs.Search.{any_make}
-use Rattle.roster.specs.Search.{any_none, any_more, any_lower}
+use Rattle.std.proofs.Common.{not, take, rules, ◌∙◌, arith, tests}
+use Rattle.std.proofs.lemmas.List.{length-take}
+use Rattle.std.proofs.lemmas.Iterator.{YieldsList-from_slice}
+use Rattle.std.proofs.lemmas.Iterator.Search.{any_from_yields_List}
+use Rattle.reader.specs.Row.{fitting}
+use Rattle.roster.proofs.Tables.{stray_steps}
 use Rattle.roster.proofs.facts.has_stray_step.Goals as goal
 
-pub loop-place-init : goal.loop-place-init
-loop-place-init c = any_none _
-
-pub returns-then-is_stray_step : goal.returns-then-is_stray_step
-returns-then-is_stray_step c = sym (any_make _ _ c.loop-place.place c.loop-place-test.true (sym c.if-is_stray_step.ensures))
-
-pub loop-place-preserved : goal.loop-place-preserved
-loop-place-preserved c = any_more _ c.loop-place.place c.loop-place.invariant (sym c.if-is_stray_step.ensures)
-
 pub returns : goal.returns
-returns c = sym (any_lower _ _ c.loop-place.place c.loop-place-test.false c.loop-place.invariant)
+returns c =
+    let row = c.args.row.now in
+    any_from_yields_List (λ s. not (fitting row s)) _ _ _ c.any.ensures.ran (YieldsList-from_slice (take row.count row.steps) cc) (λ x b q k. search (rules, tests)) ∙ stray_steps row (omega (arith, length-take row.count row.steps))
