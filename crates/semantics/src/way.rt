@@ -2,7 +2,8 @@
 ghost use Rattle.std.specs.Prelude.{◌≡◌};
 ghost use Rattle.semantics.specs.Way.{number as number_of, Decodes};
 
-// Whether a system takes an action in, puts it out, or does not have it.
+// Whether a system takes an action in, puts it out, or does not have it. That it does not is a way too, with a number of
+// its own, and so it is no `None`.
 #[derive(Clone, Copy, PartialEq, Eq, Debug)]
 pub enum Way {
     Absent = 0,
