@@ -1,6 +1,6 @@
 // Tables: what opens, and each refusal at its place.
 use reader::{Step, Table};
-use std::alloc::Global;
+use std::alloc::{AllocError, Global};
 use std::test::Fail;
 
 // Two states; input 1, output 2; a step under each, and one internal step; state 1 is an error.
@@ -25,35 +25,11 @@ fn a_good_table_opens(rt: HostRuntime) {
     assert!(rt; table.open(GOOD).is_ok());
     let row = table.row();
     assert_eq!(rt; (row.states, row.start, row.count), (2, 0, 3));
-    assert_eq!(rt;
-        (
-            row.way(1).number(),
-            row.way(2).number(),
-            row.way(3).number(),
-        ),
-        (1, 2, 0)
-    );
-    assert!(rt;
-        row.has_step(Step {
-            from: 0,
-            action: 1,
-            to: 1,
-        })
-    );
-    assert!(rt;
-        row.has_step(Step {
-            from: 1,
-            action: 2,
-            to: 0,
-        })
-    );
-    assert!(rt;
-        row.has_step(Step {
-            from: 1,
-            action: 0,
-            to: 0,
-        })
-    );
+    let ways = [1, 2, 3].map(|action| row.way(action).number());
+    assert_eq!(rt; ways, [1, 2, 0]);
+    for (from, action, to) in [(0, 1, 1), (1, 2, 0), (1, 0, 0)] {
+        assert!(rt; row.has_step(Step { from, action, to }));
+    }
     assert_eq!(rt; (row.is_error(0), row.is_error(1)), (false, true));
 }
 
@@ -77,13 +53,8 @@ fn a_resting_table_rests(rt: HostRuntime) {
 #[test]
 fn cuts(rt: HostRuntime) {
     for n in 0..GOOD.len() {
-        let mut start = 0;
-        for s in STARTS {
-            if s as usize <= n {
-                start = s;
-            }
-        }
-        assert_eq!(rt; verdict(&GOOD[0..n]), (1, start));
+        let start = STARTS.into_iter().rev().find(|s| *s as usize <= n);
+        assert_eq!(rt; verdict(&GOOD[..n]), (1, start.unwrap_or(0)));
     }
     assert_eq!(rt; verdict(GOOD), (0, 0));
 }
@@ -178,14 +149,13 @@ fn each_refusal_at_its_place(rt: HostRuntime) {
 }
 
 // The first n steps of a table with 64 states, in the order of their ends.
-fn many_steps(heap: Global, n: u16) -> Result<Vec<u8>, Fail> {
+fn many_steps(heap: Global, n: u16) -> Result<Vec<u8>, AllocError> {
     let mut bytes = Vec::new(heap);
     bytes.extend_from_slice(b"\x02\x00\x01\x00\x40\x00")?;
     for k in 0..n {
-        bytes.extend_from_slice(b"\x03\x00\x03\x00")?;
-        bytes.push((k / 64 % 64) as u8)?;
-        bytes.push(0)?;
-        bytes.push((k % 64) as u8)?;
+        let from = (k / 64 % 64) as u8;
+        let to = (k % 64) as u8;
+        bytes.extend_from_slice(&[3, 0, 3, 0, from, 0, to])?;
     }
     bytes.extend_from_slice(b"\x00\x00\x05\x00")?;
     Ok(bytes)
