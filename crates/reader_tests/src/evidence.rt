@@ -3,20 +3,19 @@ use reader::{Ending, EvidenceFault, Move, Pair, read_pairs, read_run};
 use std::alloc::{AllocError, Global};
 use std::test::Fail;
 
-// How many things are read, with zeros, or zero with the number and the place of the refusal.
-fn verdict(read: Result<usize, EvidenceFault>) -> (usize, u8, u32) {
-    match read {
-        Ok(count) => (count, 0, 0),
-        Err(fault) => (0, fault.number(), fault.place()),
-    }
+// The number and the place of a refusal.
+fn told(fault: EvidenceFault) -> (u8, u32) {
+    (fault.number(), fault.place())
 }
 
-fn pairs_verdict(bytes: &[u8]) -> (usize, u8, u32) {
-    verdict(read_pairs(bytes).map(|pairs| pairs.len()))
+// How many pairs are read.
+fn pairs_verdict(bytes: &[u8]) -> Result<usize, (u8, u32)> {
+    read_pairs(bytes).map(|pairs| pairs.len()).map_err(told)
 }
 
-fn run_verdict(bytes: &[u8]) -> (usize, u8, u32) {
-    verdict(read_run(bytes).map(|run| run.moves.len()))
+// How many moves are read.
+fn run_verdict(bytes: &[u8]) -> Result<usize, (u8, u32)> {
+    read_run(bytes).map(|run| run.moves.len()).map_err(told)
 }
 
 #[test]
@@ -69,9 +68,9 @@ const NO_PAIRS: [(&[u8], u8, u32); 5] = [
 
 #[test]
 fn refused_pairs(rt: HostRuntime) {
-    assert_eq!(rt; pairs_verdict(b""), (0, 0, 0));
+    assert_eq!(rt; pairs_verdict(b""), Ok(0));
     for (bytes, number, place) in NO_PAIRS {
-        assert_eq!(rt; pairs_verdict(bytes), (0, number, place));
+        assert_eq!(rt; pairs_verdict(bytes), Err((number, place)));
     }
 }
 
@@ -93,12 +92,12 @@ fn many_pairs(heap: Global, n: u16) -> Result<Vec<u8>, AllocError> {
 #[test]
 fn pairs_4096_and_4097(rt: HostRuntime) -> Result<(), Fail> {
     let mut bytes = many_pairs(rt.alloc(), 4096)?;
-    assert_eq!(rt; pairs_verdict(bytes.as_slice()), (4096, 0, 0));
+    assert_eq!(rt; pairs_verdict(bytes.as_slice()), Ok(4096));
     bytes.push(0)?;
-    assert_eq!(rt; pairs_verdict(bytes.as_slice()), (0, 14, 4096));
+    assert_eq!(rt; pairs_verdict(bytes.as_slice()), Err((14, 4096)));
     assert_eq!(rt;
         pairs_verdict(many_pairs(rt.alloc(), 4097)?.as_slice()),
-        (0, 14, 4096)
+        Err((14, 4096))
     );
     Ok(())
 }
@@ -123,8 +122,8 @@ fn runs_and_endings(rt: HostRuntime) -> Result<(), Fail> {
         ]
         .as_slice()
     );
-    assert_eq!(rt; run_verdict(b"\x02\x00\x12\x00\x01\x00"), (0, 0, 0));
-    assert_eq!(rt; run_verdict(b"\x02\x00\x12\x00\x02\x00"), (0, 0, 0));
+    assert_eq!(rt; run_verdict(b"\x02\x00\x12\x00\x01\x00"), Ok(0));
+    assert_eq!(rt; run_verdict(b"\x02\x00\x12\x00\x02\x00"), Ok(0));
     Ok(())
 }
 
@@ -150,7 +149,7 @@ const NO_RUN: [(&[u8], u8, u32); 10] = [
 #[test]
 fn refused_runs(rt: HostRuntime) {
     for (bytes, number, place) in NO_RUN {
-        assert_eq!(rt; run_verdict(bytes), (0, number, place));
+        assert_eq!(rt; run_verdict(bytes), Err((number, place)));
     }
 }
 
@@ -164,11 +163,11 @@ fn many_moves(heap: Global, n: u16) -> Result<Vec<u8>, AllocError> {
 fn moves_4096_and_4097(rt: HostRuntime) -> Result<(), Fail> {
     assert_eq!(rt;
         run_verdict(many_moves(rt.alloc(), 4096)?.as_slice()),
-        (4096, 0, 0)
+        Ok(4096)
     );
     assert_eq!(rt;
         run_verdict(many_moves(rt.alloc(), 4097)?.as_slice()),
-        (0, 24, 4097)
+        Err((24, 4097))
     );
     Ok(())
 }

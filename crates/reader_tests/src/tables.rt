@@ -10,13 +10,11 @@ const GOOD: &[u8] =
 // Where the records of the good table begin.
 const STARTS: [u32; 8] = [0, 6, 12, 18, 25, 32, 39, 44];
 
-// The number and the place of a refusal, or zeros.
-fn verdict(bytes: &[u8]) -> (u8, u32) {
-    let mut table = Table::resting();
-    match table.open(bytes) {
-        Ok(()) => (0, 0),
-        Err(fault) => (fault.number(), fault.place()),
-    }
+// Whether the bytes open, or the number and the place of their refusal.
+fn verdict(bytes: &[u8]) -> Result<(), (u8, u32)> {
+    Table::resting()
+        .open(bytes)
+        .map_err(|fault| (fault.number(), fault.place()))
 }
 
 #[test]
@@ -54,97 +52,104 @@ fn a_resting_table_rests(rt: HostRuntime) {
 fn cuts(rt: HostRuntime) {
     for n in 0..GOOD.len() {
         let start = STARTS.into_iter().rev().find(|s| *s as usize <= n);
-        assert_eq!(rt; verdict(&GOOD[..n]), (1, start.unwrap_or(0)));
+        assert_eq!(rt; verdict(&GOOD[..n]), Err((1, start.unwrap_or(0))));
     }
-    assert_eq!(rt; verdict(GOOD), (0, 0));
+    assert_eq!(rt; verdict(GOOD), Ok(()));
 }
 
-// Bytes with the number and the place of their refusal, or zeros where they open.
-const CASES: [(&[u8], u8, u32); 27] = [
+// Bytes with the number and the place of their refusal, or with `Ok` where they open.
+const CASES: [(&[u8], Result<(), (u8, u32)>); 27] = [
     // a record that may not stand there
-    (b"\x00\x00\x05\x00", 2, 0),
-    (b"\x02\x00\x01\x00\x02\x00\x02\x00\x01\x00\x02\x00", 2, 6),
-    (b"\x02\x00\x01\x00\x02\x00\x01\x00\x06\x00\x00", 2, 6),
+    (b"\x00\x00\x05\x00", Err((2, 0))),
+    (
+        b"\x02\x00\x01\x00\x02\x00\x02\x00\x01\x00\x02\x00",
+        Err((2, 6)),
+    ),
+    (b"\x02\x00\x01\x00\x02\x00\x01\x00\x06\x00\x00", Err((2, 6))),
     (
         b"\x02\x00\x01\x00\x02\x00\x03\x00\x03\x00\x00\x00\x01\x02\x00\x02\x00\x01\x01",
-        2,
-        13,
+        Err((2, 13)),
     ),
     (
         b"\x02\x00\x01\x00\x02\x00\x01\x00\x04\x00\x01\x03\x00\x03\x00\x00\x00\x01",
-        2,
-        11,
+        Err((2, 11)),
     ),
     // a body that is too long or too short
-    (b"\x01\x00\x01\x00\x02", 3, 0),
+    (b"\x01\x00\x01\x00\x02", Err((3, 0))),
     (
         b"\x02\x00\x01\x00\x02\x00\x03\x00\x02\x00\x01\x01\x00",
-        3,
-        6,
+        Err((3, 6)),
     ),
-    (b"\x02\x00\x01\x00\x02\x00\x02\x00\x03\x00\x00\x00", 3, 6),
-    (b"\x02\x00\x01\x00\x02\x00\x00\x00\x04\x00", 3, 6),
-    (b"\x02\x00\x01\x00\x02\x00\x01\x00\x05\x00\x00", 3, 6),
+    (
+        b"\x02\x00\x01\x00\x02\x00\x02\x00\x03\x00\x00\x00",
+        Err((3, 6)),
+    ),
+    (b"\x02\x00\x01\x00\x02\x00\x00\x00\x04\x00", Err((3, 6))),
+    (b"\x02\x00\x01\x00\x02\x00\x01\x00\x05\x00\x00", Err((3, 6))),
     // a head with no state, with a start that is none, with 64 states and with 65
-    (b"\x02\x00\x01\x00\x00\x00\x00\x00\x05\x00", 4, 0),
-    (b"\x02\x00\x01\x00\x02\x02\x00\x00\x05\x00", 4, 0),
-    (b"\x02\x00\x01\x00\x40\x3f\x00\x00\x05\x00", 0, 0),
-    (b"\x02\x00\x01\x00\x41\x00\x00\x00\x05\x00", 4, 0),
+    (b"\x02\x00\x01\x00\x00\x00\x00\x00\x05\x00", Err((4, 0))),
+    (b"\x02\x00\x01\x00\x02\x02\x00\x00\x05\x00", Err((4, 0))),
+    (b"\x02\x00\x01\x00\x40\x3f\x00\x00\x05\x00", Ok(())),
+    (b"\x02\x00\x01\x00\x41\x00\x00\x00\x05\x00", Err((4, 0))),
     // action 0, action 33, action 32, and a way that is none
-    (b"\x02\x00\x01\x00\x02\x00\x02\x00\x02\x00\x00\x01", 4, 6),
-    (b"\x02\x00\x01\x00\x02\x00\x02\x00\x02\x00\x21\x01", 4, 6),
+    (
+        b"\x02\x00\x01\x00\x02\x00\x02\x00\x02\x00\x00\x01",
+        Err((4, 6)),
+    ),
+    (
+        b"\x02\x00\x01\x00\x02\x00\x02\x00\x02\x00\x21\x01",
+        Err((4, 6)),
+    ),
     (
         b"\x02\x00\x01\x00\x02\x00\x02\x00\x02\x00\x20\x02\x00\x00\x05\x00",
-        0,
-        0,
+        Ok(()),
     ),
-    (b"\x02\x00\x01\x00\x02\x00\x02\x00\x02\x00\x01\x03", 4, 6),
+    (
+        b"\x02\x00\x01\x00\x02\x00\x02\x00\x02\x00\x01\x03",
+        Err((4, 6)),
+    ),
     // a step under an action that is not declared, from no state, to no state, and an error that is no state
     (
         b"\x02\x00\x01\x00\x02\x00\x03\x00\x03\x00\x00\x01\x01",
-        4,
-        6,
+        Err((4, 6)),
     ),
     (
         b"\x02\x00\x01\x00\x02\x00\x03\x00\x03\x00\x02\x00\x01",
-        4,
-        6,
+        Err((4, 6)),
     ),
     (
         b"\x02\x00\x01\x00\x02\x00\x03\x00\x03\x00\x01\x00\x02",
-        4,
-        6,
+        Err((4, 6)),
     ),
-    (b"\x02\x00\x01\x00\x02\x00\x01\x00\x04\x00\x02", 4, 6),
+    (b"\x02\x00\x01\x00\x02\x00\x01\x00\x04\x00\x02", Err((4, 6))),
     // an action with the other way, a step and an error for a second time
     (
         b"\x02\x00\x01\x00\x02\x00\x02\x00\x02\x00\x01\x01\x02\x00\x02\x00\x01\x02",
-        5,
-        12,
+        Err((5, 12)),
     ),
     (
         b"\x02\x00\x01\x00\x02\x00\x03\x00\x03\x00\x00\x00\x01\x03\x00\x03\x00\x00\x00\x01",
-        5,
-        13,
+        Err((5, 13)),
     ),
     (
         b"\x02\x00\x01\x00\x02\x00\x01\x00\x04\x00\x01\x01\x00\x04\x00\x01",
-        5,
-        11,
+        Err((5, 11)),
     ),
     // bytes behind the end
-    (b"\x02\x00\x01\x00\x02\x00\x00\x00\x05\x00\x07", 7, 10),
+    (
+        b"\x02\x00\x01\x00\x02\x00\x00\x00\x05\x00\x07",
+        Err((7, 10)),
+    ),
     (
         b"\x02\x00\x01\x00\x02\x00\x00\x00\x05\x00\x00\x00\x05\x00",
-        7,
-        10,
+        Err((7, 10)),
     ),
 ];
 
 #[test]
 fn each_refusal_at_its_place(rt: HostRuntime) {
-    for (bytes, number, place) in CASES {
-        assert_eq!(rt; verdict(bytes), (number, place));
+    for (bytes, expected) in CASES {
+        assert_eq!(rt; verdict(bytes), expected);
     }
 }
 
@@ -163,10 +168,10 @@ fn many_steps(heap: Global, n: u16) -> Result<Vec<u8>, AllocError> {
 
 #[test]
 fn steps_256_and_257(rt: HostRuntime) -> Result<(), Fail> {
-    assert_eq!(rt; verdict(many_steps(rt.alloc(), 256)?.as_slice()), (0, 0));
+    assert_eq!(rt; verdict(many_steps(rt.alloc(), 256)?.as_slice()), Ok(()));
     assert_eq!(rt;
         verdict(many_steps(rt.alloc(), 257)?.as_slice()),
-        (6, 6 + 256 * 7)
+        Err((6, 6 + 256 * 7))
     );
     Ok(())
 }
