@@ -1,5 +1,5 @@
 // The text of a row, of a refusal, and of the bytes of a table.
-ghost use Rattle.std.specs.Prelude.{◌≡◌, true, false, is_ok, IfOk, MatchResult, string_bytes};
+ghost use Rattle.std.specs.Prelude.{◌≡◌, is_ok, IfOk, MatchResult, string_bytes};
 ghost use Rattle.reader.specs.Table.{opened};
 ghost use Rattle.printing.specs.Text.{row_text, refused_text, table_text};
 

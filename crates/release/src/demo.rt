@@ -89,13 +89,13 @@ pub fn demo(rt: &HostRuntime) -> io::Result<()> {
     tell_records(rt)?;
     rt.print(FIRST)?;
     rt.print(LINES)?;
-    let _ = show(rt, &STATION)?;
+    show(rt, &STATION)?;
     rt.print(READING)?;
     rt.print(DAMAGED)?;
     show_damaged(rt)?;
     rt.print(DAMAGED_MEANS)?;
     rt.print(CUT)?;
-    let _ = show(rt, &STATION[..34])?;
+    show(rt, &STATION[..34])?;
     rt.print(CUT_MEANS)
 }
 
@@ -119,6 +119,7 @@ fn tell(rt: &HostRuntime, at: usize, record: &[u8], says: &str) -> io::Result<()
     println!(rt; "  at {at:>2}:  {bytes:<22} {says}")
 }
 
+// The bytes in hexadecimal, as a text of its own, since only a text is padded to a width.
 fn hexadecimal(heap: Global, bytes: &[u8]) -> Result<String, AllocError> {
     let mut text = String::new(heap);
     for byte in bytes {
@@ -130,6 +131,6 @@ fn hexadecimal(heap: Global, bytes: &[u8]) -> Result<String, AllocError> {
 fn show_damaged(rt: &HostRuntime) -> io::Result<()> {
     let mut damaged = STATION;
     damaged[31] = 7;
-    let _ = show(rt, &damaged)?;
+    show(rt, &damaged)?;
     Ok(())
 }
