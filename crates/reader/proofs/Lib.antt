@@ -1,4 +1,6 @@
 pub mod Records
+pub mod Unknown
+pub mod Numbers
 pub mod Rows
 pub mod Drafts
 pub mod Outcomes

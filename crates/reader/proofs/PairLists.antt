@@ -1,5 +1,5 @@
 -- Bytes are read as pairs exactly where their records tell them.
-use Rattle.std.proofs.Common.{◌≡◌, ℕ, ◌+◌, ◌<◌, ◌≤◌, eqb, ltb, List, [], ◌∷◌, ◌++◌, length, Ok, Err, Result, sym, refl, ap, ◌∙◌, subst, inl, inr, ⊎_elim, arith}
+use Rattle.std.proofs.Common.{◌≡◌, ℕ, ◌+◌, ◌<◌, ◌≤◌, eqb, ltb, MatchResult, List, [], ◌∷◌, ◌++◌, length, Ok, Err, Result, sym, refl, ap, ◌∙◌, subst, inl, inr, ⊎_elim, arith}
 use Rattle.std.proofs.lemmas.List.{append-nil, append_assoc, length_push}
 use Rattle.std.proofs.lemmas.Bool.{cases_Bool, cases_eq, cond-true, cond-false, eq-eqb, ne_eqb, ltb-true, ltb-false, lt-ltb}
 use Rattle.reader.specs.declared.fault.Fault as faults
@@ -128,3 +128,8 @@ unfolding pairs_in PairsBreak
 pairs_break bytes f e =
     let g = subst (Gathered [] 0 (records bytes)) e (gathered (records bytes) [] 0 (omega arith)) in
     (g.0, g.1, g.2, g.3, g.4, stands_behind f g.0 g.2 g.5)
+
+-- what an answer says of the bytes
+pub pairs_told : (bytes : List ℕ) (r : Result (List Pair) evidence.EvidenceFault) → r ≡ pairs_in bytes → MatchResult r (PairsLaid bytes) (PairsBreak bytes)
+pairs_told bytes (Ok ps) e = pairs_laid bytes ps (sym e)
+pairs_told bytes (Err f) e = pairs_break bytes f (sym e)

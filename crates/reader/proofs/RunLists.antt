@@ -1,13 +1,14 @@
 -- Bytes are read as a run exactly where they are one record that tells it.
-use Rattle.std.proofs.Common.{◌≡◌, ℕ, zero, suc, ◌+◌, ◌*◌, ◌/◌, ◌%◌, ◌<◌, ◌≤◌, cond, eqb, leb, List, [], ◌∷◌, length, Some, None, Ok, Err, Option, Result, sym, refl, ap, ◌∙◌, subst, inl, inr, ⊎_elim, arith}
+use Rattle.std.proofs.Common.{◌≡◌, ℕ, zero, suc, ◌+◌, ◌*◌, ◌/◌, ◌%◌, ◌<◌, ◌≤◌, cond, eqb, leb, MatchResult, List, [], ◌∷◌, length, Some, None, Ok, Err, Option, Result, sym, refl, ap, ◌∙◌, subst, inl, inr, ⊎_elim, arith}
 use Rattle.std.proofs.lemmas.Bool.{cases_lt, cond-true, cond_both, eqb-true, eqb-false, eq-eqb, leb-true, leb-false, le-leb}
 use Rattle.reader.specs.declared.fault.Fault.TheVariants.{Kind, Length, Trailing}
 use Rattle.reader.specs.declared.evidence.EvidenceFault.{EvidenceFault}
 use Rattle.reader.specs.declared.evidence.EvidenceFault.TheVariants.{Record, Moves}
 use Rattle.reader.specs.declared.run.Ending.{Ending}
 use Rattle.reader.specs.declared.run.Move.{Move}
+use Rattle.reader.specs.declared.run.Run.{Run}
 use Rattle.reader.specs.Record.{Records, none, cut, next, front, records}
-use Rattle.reader.specs.Run.{ending_of, moves_in, Told, alone, moved, embodied, recorded, run_in}
+use Rattle.reader.specs.Run.{ending_of, moves_in, Told, alone, moved, embodied, recorded, run_in, outcome}
 use Rattle.reader.specs.Evidence.{MovesTold, RunLaid, RunStands, RunBreaks}
 use Rattle.reader.proofs.Records.{records-none, records-cut, records-next}
 use Rattle.reader.proofs.Breaks.{cut_some, next_some}
@@ -132,3 +133,8 @@ laid_run bytes ending ms (e, i, moves, is, told, ts, few) = go (front bytes) ref
         ∙ ap (alone moves t.2) told
         ∙ cond-true (eqb (length t.2) 0) _ (Err (Record (Trailing (6 + length moves)))) (eq-eqb (length t.2) 0 empty)
         ∙ ap (λ xs. Ok (ending, xs)) m.0
+
+-- what an answer says of the bytes
+pub run_told : (bytes : List ℕ) (r : Result Run EvidenceFault) → outcome r ≡ run_in bytes → MatchResult r (λ run. RunLaid bytes run.ending run.moves) (λ f. RunBreaks bytes f)
+run_told bytes (Ok run) e = run_laid bytes run.ending run.moves (sym e)
+run_told bytes (Err f) e = run_breaks bytes f (sym e)

@@ -1,12 +1,13 @@
+pub mod Kind
 pub mod Fault
 pub mod Record
+pub mod Placed
 pub mod Row
 pub mod Draft
 pub mod Table
 pub mod EvidenceFault
 pub mod Number
 pub mod Pairs
-pub mod Listing
 pub mod Run
 pub mod Layout
 pub mod Evidence

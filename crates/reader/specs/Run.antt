@@ -11,7 +11,6 @@ use Rattle.reader.specs.declared.run.Ending as endings
 use Rattle.reader.specs.declared.run.Ending.TheVariants.{Flooded, Error, Unaccepted}
 use Rattle.reader.specs.declared.run.Move.{Move}
 use Rattle.reader.specs.declared.run.Run as code
-use Rattle.reader.specs.Listing.{items}
 use Rattle.reader.specs.Number.{little}
 use Rattle.reader.specs.Record.{front}
 
@@ -64,5 +63,5 @@ unfoldable pub run_in : List ℕ → Result Told EvidenceFault
 run_in bytes = recorded (front bytes)
 
 abbrev pub outcome : Result code.Run EvidenceFault → Result Told EvidenceFault
-outcome (Ok run) = Ok (run.ending, items run.moves)
+outcome (Ok run) = Ok (run.ending, run.moves)
 outcome (Err f) = Err f

@@ -5,7 +5,8 @@ ghost use Rattle.reader.specs.Draft.{headed, acted, stepped, failed, ended, ente
 ghost use Rattle.reader.specs.declared.stage.Stage.TheVariants.{Head as AtHead, Actions as AtActions, Steps as AtSteps, Errors as AtErrors, Closed as AtClosed};
 
 use crate::fault::Fault;
-use crate::record::Record;
+use crate::kind::Kind;
+use crate::placed::Placed;
 use crate::row::{Row, Step};
 use crate::stage::Stage;
 use semantics::Way;
@@ -33,84 +34,69 @@ impl Draft {
     pub fn is_closed(&self) -> bool
         ensures { result ≡ closed self.now.stage }
     {
-        match self.stage {
-            Stage::Head | Stage::Actions | Stage::Steps | Stage::Errors => false,
-            Stage::Closed => true,
+        self.stage == Stage::Closed
+    }
+
+    // Takes in a record. A match shows all that may stand where, at a glance; a table of functions would not.
+    pub fn take(&mut self, placed: &Placed<'_>) -> Result<(), Fault>
+        ensures { reached result self.new.row self.new.stage ≡ entered self.old.row self.old.stage placed.now.at placed.now.«record».kind placed.now.«record».body.now }
+    {
+        match (self.stage, placed.kind()?) {
+            (Stage::Head, Kind::Head) => self.head(placed),
+            (Stage::Actions, Kind::Action) => self.action(placed),
+            (Stage::Actions | Stage::Steps, Kind::Step) => self.step(placed),
+            (Stage::Actions | Stage::Steps | Stage::Errors, Kind::Error) => self.error(placed),
+            (Stage::Actions | Stage::Steps | Stage::Errors, Kind::End) => self.end(placed),
+            _ => Err(Fault::Kind(placed.at)),
         }
     }
 
-    // Takes in the record that stands at an offset.
-    pub fn take(&mut self, record: Record<'_>, at: u32) -> Result<(), Fault>
-        ensures { reached result self.new.row self.new.stage ≡ entered self.old.row self.old.stage at «record».entry.kind «record».entry.body.now }
+    fn head(&mut self, placed: &Placed<'_>) -> Result<(), Fault>
+        ensures { reached result self.new.row self.new.stage ≡ staged AtActions (headed placed.now.at placed.now.«record».body.now) }
     {
-        match (self.stage, record.kind) {
-            (Stage::Head, 1) => self.head(record.body, at),
-            (Stage::Actions, 2) => self.action(record.body, at),
-            (Stage::Actions | Stage::Steps, 3) => self.step(record.body, at),
-            (Stage::Actions | Stage::Steps | Stage::Errors, 4) => self.error(record.body, at),
-            (Stage::Actions | Stage::Steps | Stage::Errors, 5) => self.end(record.body, at),
-            _ => Err(Fault::Kind(at)),
-        }
-    }
-
-    fn head(&mut self, body: &[u8], at: u32) -> Result<(), Fault>
-        ensures { reached result self.new.row self.new.stage ≡ staged AtActions (headed at body.now) }
-    {
-        let [states, start] = body else {
-            return Err(Fault::Length(at));
-        };
-        if *states == 0 || *states > 64 || *start >= *states {
-            return Err(Fault::Value(at));
+        let [states, start] = placed.fields::<2>()?;
+        if states == 0 || states > 64 || start >= states {
+            return Err(Fault::Value(placed.at));
         }
         *self = Draft {
-            row: Row::blank(*states, *start),
+            row: Row::blank(states, start),
             stage: Stage::Actions,
         };
         Ok(())
     }
 
-    fn action(&mut self, body: &[u8], at: u32) -> Result<(), Fault>
-        ensures { reached result self.new.row self.new.stage ≡ staged AtActions (acted self.old.row at body.now) }
+    fn action(&mut self, placed: &Placed<'_>) -> Result<(), Fault>
+        ensures { reached result self.new.row self.new.stage ≡ staged AtActions (acted self.old.row placed.now.at placed.now.«record».body.now) }
     {
-        let [action, way] = body else {
-            return Err(Fault::Length(at));
+        let [action, way] = placed.fields::<2>()?;
+        let Ok(way) = Way::try_from(way) else {
+            return Err(Fault::Value(placed.at));
         };
-        let way = match *way {
-            1 => Way::Input,
-            2 => Way::Output,
-            _ => return Err(Fault::Value(at)),
-        };
-        if *action == 0 || *action > 32 {
-            return Err(Fault::Value(at));
+        if way == Way::Absent || action == 0 || action > 32 {
+            return Err(Fault::Value(placed.at));
         }
-        if self.row.way(*action) != Way::Absent {
-            return Err(Fault::Repeated(at));
+        if self.row.way(action) != Way::Absent {
+            return Err(Fault::Repeated(placed.at));
         }
-        self.row.ways[usize::from(*action) - 1] = way;
+        self.row.ways[usize::from(action) - 1] = way;
         self.stage = Stage::Actions;
         Ok(())
     }
 
-    fn step(&mut self, body: &[u8], at: u32) -> Result<(), Fault>
-        ensures { reached result self.new.row self.new.stage ≡ staged AtSteps (stepped self.old.row at body.now) }
+    fn step(&mut self, placed: &Placed<'_>) -> Result<(), Fault>
+        ensures { reached result self.new.row self.new.stage ≡ staged AtSteps (stepped self.old.row placed.now.at placed.now.«record».body.now) }
     {
-        let [from, action, to] = body else {
-            return Err(Fault::Length(at));
-        };
-        let step = Step {
-            from: *from,
-            action: *action,
-            to: *to,
-        };
+        let [from, action, to] = placed.fields::<3>()?;
+        let step = Step { from, action, to };
         if !self.row.fits(step) {
-            return Err(Fault::Value(at));
+            return Err(Fault::Value(placed.at));
         }
         if self.row.has_step(step) {
-            return Err(Fault::Repeated(at));
+            return Err(Fault::Repeated(placed.at));
         }
         let count = self.row.count;
         if count >= 256 {
-            return Err(Fault::Overfull(at));
+            return Err(Fault::Overfull(placed.at));
         }
         self.row.steps[count] = step;
         self.row.count = count + 1;
@@ -118,29 +104,25 @@ impl Draft {
         Ok(())
     }
 
-    fn error(&mut self, body: &[u8], at: u32) -> Result<(), Fault>
-        ensures { reached result self.new.row self.new.stage ≡ staged AtErrors (failed self.old.row at body.now) }
+    fn error(&mut self, placed: &Placed<'_>) -> Result<(), Fault>
+        ensures { reached result self.new.row self.new.stage ≡ staged AtErrors (failed self.old.row placed.now.at placed.now.«record».body.now) }
     {
-        let [state] = body else {
-            return Err(Fault::Length(at));
-        };
-        if *state >= self.row.states {
-            return Err(Fault::Value(at));
+        let [state] = placed.fields::<1>()?;
+        if state >= self.row.states {
+            return Err(Fault::Value(placed.at));
         }
-        if self.row.is_error(*state) {
-            return Err(Fault::Repeated(at));
+        if self.row.is_error(state) {
+            return Err(Fault::Repeated(placed.at));
         }
-        self.row.errors[usize::from(*state)] = true;
+        self.row.errors[usize::from(state)] = true;
         self.stage = Stage::Errors;
         Ok(())
     }
 
-    fn end(&mut self, body: &[u8], at: u32) -> Result<(), Fault>
-        ensures { reached result self.new.row self.new.stage ≡ staged AtClosed (ended self.old.row at body.now) }
+    fn end(&mut self, placed: &Placed<'_>) -> Result<(), Fault>
+        ensures { reached result self.new.row self.new.stage ≡ staged AtClosed (ended self.old.row placed.now.at placed.now.«record».body.now) }
     {
-        let [] = body else {
-            return Err(Fault::Length(at));
-        };
+        let [] = placed.fields::<0>()?;
         self.stage = Stage::Closed;
         Ok(())
     }

@@ -1,19 +1,32 @@
 // A list of at most 4,096 things that needs no heap.
-ghost use Rattle.std.specs.Prelude.{◌≡◌, ◌≤◌, [], ◌∷◌, ◌++◌, length, take, if◌then◌else◌, nat_lt};
+ghost use Rattle.std.specs.Prelude.{◌≡◌, ◌≤◌, [], ◌∷◌, ◌++◌, length, take, nat_lt, is_ok, OnOk, OnErr, List};
 
-// The first `count` places hold what was listed, in its order.
+use std::marker::Model;
+
+// The first `count` places hold what was listed, in its order. A contract sees the things that are listed. The places
+// are an array, since reading takes no memory from the heap, and so never fails for want of it.
 #[derive(Drop)]
 pub struct Listing<T> {
     places: [T; 4096],
     count: usize,
-    ghost whole: { length places ≡ 4096 },
-    ghost few: { count ≤ 4096 },
+}
+
+// A listing has no place left.
+#[derive(Clone, Copy, PartialEq, Eq, Debug)]
+pub struct Full;
+
+impl<T> Model for Listing<T> {
+    ghost Value = { List T };
+
+    ghost view = { λ l. take l.count l.places };
+
+    ghost invariant = { λ l. (length l.places ≡ 4096) × (l.count ≤ 4096) };
 }
 
 impl<T: Copy> Listing<T> {
     // An empty list; `filler` stands in the places that are not used.
     pub fn new(filler: T) -> Listing<T>
-        ensures { take result.count result.places ≡ [] }
+        ensures { result ≡ [] }
     {
         Listing {
             places: [filler; 4096],
@@ -23,7 +36,7 @@ impl<T: Copy> Listing<T> {
 
     // What is listed, in its order.
     pub fn as_slice(&self) -> &[T]
-        ensures { result.now ≡ take self.now.count self.now.places }
+        ensures { result.now ≡ self.now }
     {
         let all = &self.places[..];
         &all[0..self.count]
@@ -31,21 +44,22 @@ impl<T: Copy> Listing<T> {
 
     // How many things are listed.
     pub fn len(&self) -> usize
-        ensures { result ≡ length (take self.now.count self.now.places) }
+        ensures { result ≡ length self.now }
     {
         self.as_slice().len()
     }
 
-    // Lists one thing more, or answers false where 4,096 are listed.
-    pub fn push(&mut self, item: T) -> bool
-        ensures room { result ≡ nat_lt (length (take self.old.count self.old.places)) 4096 }
-        ensures after { take self.new.count self.new.places ≡ (if result then take self.old.count self.old.places ++ item ∷ [] else take self.old.count self.old.places) }
+    // Lists one thing more; where 4,096 are listed it is refused, and nothing changes.
+    pub fn push(&mut self, item: T) -> Result<(), Full>
+        ensures room { is_ok result ≡ nat_lt (length self.old) 4096 }
+        ensures listed { OnOk result (self.new ≡ self.old ++ item ∷ []) }
+        ensures full { OnErr result (self.new ≡ self.old) }
     {
         if self.count >= 4096 {
-            return false;
+            return Err(Full);
         }
         self.places[self.count] = item;
         self.count += 1;
-        true
+        Ok(())
     }
 }

@@ -3,7 +3,7 @@ ghost use Rattle.std.specs.Prelude.{◌≡◌, ◌<◌, length, IfSome};
 ghost use Rattle.std.specs.Option.{option_map};
 ghost use Rattle.reader.specs.Record.{front, ReadBack};
 
-// One record, with its body where it lies.
+// One record, with its body where it lies. The number of its kind is as it was read, and may stand for none.
 #[derive(Clone, Copy)]
 pub struct Record<'a> {
     pub kind: u16,

@@ -1,6 +1,6 @@
 // The content of a table laid down plainly, with no promise about it.
 ghost use Rattle.std.specs.Prelude.{◌≡◌};
-ghost use Rattle.reader.specs.Row.{blank as blank_of, way_of, error_at, same_step, usable, fitting, told, listed as listed_of};
+ghost use Rattle.reader.specs.Row.{blank as blank_of, way_of, error_at, usable, fitting, told, listed as listed_of};
 
 use semantics::Way;
 
@@ -12,17 +12,9 @@ pub struct Step {
     pub to: u8,
 }
 
-impl Step {
-    // Whether both are one step.
-    fn same(&self, other: Step) -> bool
-        ensures { result ≡ same_step self.now other }
-    {
-        self.from == other.from && self.action == other.action && self.to == other.to
-    }
-}
-
 // A row: how many states there are, the start, the way of the actions 1 to 32, the first `count` places of
-// `steps`, and for each state whether it is an error.
+// `steps`, and for each state whether it is an error. The arrays have fixed lengths, since reading takes no memory from
+// the heap, and the count stands beside them and is no listing's, since a row is what anybody writes down: it may be wrong.
 #[derive(Clone, Copy)]
 pub struct Row {
     pub states: u8,
@@ -56,20 +48,17 @@ impl Row {
     pub fn way(&self, action: u8) -> Way
         ensures { result ≡ way_of self.now action }
     {
-        if action == 0 || action > 32 {
-            return Way::Absent;
+        match action {
+            1..=32 => self.ways[usize::from(action) - 1],
+            _ => Way::Absent,
         }
-        self.ways[usize::from(action) - 1]
     }
 
     // Whether a state is an error.
     pub fn is_error(&self, state: u8) -> bool
         ensures { result ≡ error_at self.now state }
     {
-        if state >= 64 {
-            return false;
-        }
-        self.errors[usize::from(state)]
+        self.errors.get(usize::from(state)) == Some(&true)
     }
 
     // Whether an action may stand in a step: 0, or one that has a way.
@@ -90,26 +79,13 @@ impl Row {
     pub fn listed(&self) -> &[Step]
         ensures { result.now ≡ listed_of self.now }
     {
-        let count = self.count.min(256);
-        &self.steps[0..count]
+        &self.steps[..self.count.min(256)]
     }
 
     // Whether a step is told.
     pub fn has_step(&self, step: Step) -> bool
         ensures { result ≡ told step (listed_of self.now) }
     {
-        is_among(step, self.listed())
+        self.listed().contains(&step)
     }
-}
-
-// Whether a step stands among others.
-fn is_among(step: Step, steps: &[Step]) -> bool
-    ensures { result ≡ told step steps.now }
-{
-    for other in steps {
-        if other.same(step) {
-            return true;
-        }
-    }
-    false
 }

@@ -2,13 +2,13 @@
 ghost use Rattle.std.specs.Prelude.{◌≡◌, ◌*◌, ◌<◌, ◌≤◌, List, length, Ok, MatchResult};
 ghost use Rattle.std.specs.Option.{option_map};
 ghost use Rattle.reader.specs.Evidence.{RunLaid, RunBreaks};
-ghost use Rattle.reader.specs.Listing.{items};
 ghost use Rattle.reader.specs.Run.{ending_of, move_in, moves_in, moved, embodied, run_in, outcome};
 
 use crate::evidence::EvidenceFault;
 use crate::fault::Fault;
+use crate::kind::Kind;
 use crate::listing::Listing;
-use crate::record::split;
+use crate::unread::Unread;
 
 // A move: an action, 0 for an internal one, and the state that it leads to.
 #[derive(Clone, Copy, PartialEq, Eq, Debug)]
@@ -39,16 +39,15 @@ pub struct Run {
 // and a fault names what keeps them from being one.
 pub fn read_run(bytes: &[u8]) -> Result<Run, EvidenceFault>
     ensures outcome { outcome result ≡ run_in bytes.now }
-    ensures told { MatchResult result (λ run. RunLaid bytes.now run.ending (items run.moves)) (λ f. RunBreaks bytes.now f) }
+    ensures told { MatchResult result (λ run. RunLaid bytes.now run.ending run.moves) (λ f. RunBreaks bytes.now f) }
     ensures reads { (e : Ending) (ms : List Move) → RunLaid bytes.now e ms → outcome result ≡ Ok (e, ms) }
 {
-    let Some((record, behind)) = split(bytes) else {
-        return Err(EvidenceFault::Record(Fault::Cut(0)));
+    let mut unread = Unread::of(bytes);
+    let placed = unread.read_record()?;
+    let Kind::Run = placed.kind()? else {
+        return Err(Fault::Kind(0).into());
     };
-    if record.kind != 18 {
-        return Err(EvidenceFault::Record(Fault::Kind(0)));
-    }
-    read_body(record.body, behind)
+    read_body(placed.record.body, unread.rest)
 }
 
 // The run of a record's body, behind which some bytes follow.
@@ -57,7 +56,7 @@ fn read_body(body: &[u8], behind: &[u8]) -> Result<Run, EvidenceFault>
     ensures { outcome result ≡ embodied body.now behind.now }
 {
     let [ending, input, moves @ ..] = body else {
-        return Err(EvidenceFault::Record(Fault::Length(0)));
+        return Err(Fault::Length(0).into());
     };
     read_parts(*ending, *input, moves, behind)
 }
@@ -68,17 +67,15 @@ fn read_parts(ending: u8, input: u8, moves: &[u8], behind: &[u8]) -> Result<Run,
     ensures { outcome result ≡ moved ending input moves.now behind.now }
 {
     if moves.len() % 3 != 0 {
-        return Err(EvidenceFault::Record(Fault::Length(0)));
+        return Err(Fault::Length(0).into());
     }
     let count = moves.len() / 3;
     if count > 4096 {
         return Err(EvidenceFault::Moves(count as u32));
     }
-    let Some(ending) = read_ending(ending, input) else {
-        return Err(EvidenceFault::Record(Fault::Value(0)));
-    };
+    let ending = read_ending(ending, input).ok_or(Fault::Value(0))?;
     if !behind.is_empty() {
-        return Err(EvidenceFault::Record(Fault::Trailing(6 + moves.len() as u32)));
+        return Err(Fault::Trailing(6 + moves.len() as u32).into());
     }
     Ok(Run {
         ending,
@@ -86,7 +83,8 @@ fn read_parts(ending: u8, input: u8, moves: &[u8], behind: &[u8]) -> Result<Run,
     })
 }
 
-// The ending of a number; the input has to be 0 where it is not asked for.
+// The ending of a number; the input has to be 0 where it is not asked for. It takes both numbers, since neither alone
+// tells an ending, and so a conversion would be from a pair and no plainer.
 fn read_ending(ending: u8, input: u8) -> Option<Ending>
     ensures { result ≡ ending_of ending input }
 {
@@ -101,33 +99,19 @@ fn read_ending(ending: u8, input: u8) -> Option<Ending>
 // The moves that some bytes tell.
 fn read_moves(bytes: &[u8]) -> Listing<Move>
     requires { length bytes.now ≤ 3 * 4096 }
-    ensures { items result ≡ moves_in bytes.now }
+    ensures { result ≡ moves_in bytes.now }
 {
     let mut moves = Listing::new(Move {
         action: 0,
         state: 0,
     });
-    let mut rest = bytes;
-    while let Some((step, behind)) = split_move(rest) {
-        let _ = moves.push(step);
-        rest = behind;
+    for chunk in bytes.chunks_exact(3) {
+        moves
+            .push(Move {
+                action: chunk[0],
+                state: u16::from_le_bytes([chunk[1], chunk[2]]),
+            })
+            .unwrap();
     }
     moves
-}
-
-// The move in front of some bytes, and the bytes behind it.
-fn split_move(bytes: &[u8]) -> Option<(Move, &[u8])>
-    ensures { option_map (λ t. (t.0, t.1.now)) result ≡ move_in bytes.now }
-{
-    let [action, low, high, behind @ ..] = bytes else {
-        return None;
-    };
-    let state = u16::from_le_bytes([*low, *high]);
-    Some((
-        Move {
-            action: *action,
-            state,
-        },
-        behind,
-    ))
 }

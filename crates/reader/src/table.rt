@@ -6,8 +6,8 @@ ghost use Rattle.reader.specs.Table.{opened, opening};
 
 use crate::draft::Draft;
 use crate::fault::Fault;
-use crate::record::split;
 use crate::row::Row;
+use crate::unread::Unread;
 
 // A row that keeps the limits and facts of a table.
 #[derive(Clone, Copy)]
@@ -56,18 +56,13 @@ fn read(bytes: &[u8]) -> Result<Row, Fault>
     ensures { result ≡ opened bytes.now }
 {
     let mut draft = Draft::new();
-    let mut rest = bytes;
-    let mut at: u32 = 0;
+    let mut unread = Unread::of(bytes);
     while !draft.is_closed() {
-        let Some((record, behind)) = split(rest) else {
-            return Err(Fault::Cut(at));
-        };
-        draft.take(record, at)?;
-        at += 4 + record.body.len() as u32;
-        rest = behind;
+        let placed = unread.read_record()?;
+        draft.take(&placed)?;
     }
-    if !rest.is_empty() {
-        return Err(Fault::Trailing(at));
+    if !unread.rest.is_empty() {
+        return Err(Fault::Trailing(unread.at));
     }
     Ok(draft.row)
 }

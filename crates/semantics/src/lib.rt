@@ -22,4 +22,4 @@ pub use replacement::{
 pub use traces::{
     error_traces_by_illegal_states, error_traces_gain_letters, error_traces_lose_outputs,
 };
-pub use way::Way;
+pub use way::{UnknownWay, Way};

@@ -1,24 +1,39 @@
 // The way of an action in a system.
 ghost use Rattle.std.specs.Prelude.{◌≡◌};
-ghost use Rattle.semantics.specs.Way.{number as number_of};
+ghost use Rattle.semantics.specs.Way.{number as number_of, Decodes};
 
 // Whether a system takes an action in, puts it out, or does not have it.
 #[derive(Clone, Copy, PartialEq, Eq, Debug)]
 pub enum Way {
-    Absent,
-    Input,
-    Output,
+    Absent = 0,
+    Input = 1,
+    Output = 2,
 }
+
+// A number that stands for no way.
+#[derive(Clone, Copy, PartialEq, Eq, Debug)]
+pub struct UnknownWay(pub u8);
 
 impl Way {
     // The number that stands for the way in questions and answers.
     pub fn number(&self) -> u8
         ensures { result ≡ number_of self.now }
     {
-        match self {
-            Way::Absent => 0,
-            Way::Input => 1,
-            Way::Output => 2,
+        *self as u8
+    }
+}
+
+impl TryFrom<u8> for Way {
+    type Error = UnknownWay;
+
+    ghost try_from_gives = { Decodes };
+
+    fn try_from(number: u8) -> Result<Self, UnknownWay> {
+        match number {
+            0 => Ok(Way::Absent),
+            1 => Ok(Way::Input),
+            2 => Ok(Way::Output),
+            _ => Err(UnknownWay(number)),
         }
     }
 }

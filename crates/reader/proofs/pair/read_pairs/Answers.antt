@@ -1,53 +1,57 @@
-use Rattle.std.proofs.Common.{◌≡◌, ◌+◌, ◌<◌, true, cond, [], ◌∷◌, ◌++◌, length, sym, ap, ◌∙◌, arith}
+use Rattle.std.proofs.Common.{◌≡◌, [], ◌∷◌, ◌++◌, length, sym, ap, ◌∙◌, arith}
 use Rattle.std.proofs.lemmas.List.{length_push}
-use Rattle.std.proofs.lemmas.Result.{err_from_is_err_and}
-use Rattle.std.proofs.lemmas.Bool.{eqb-true, eqb-false, lt-ltb}
-use Rattle.reader.specs.Listing.{items}
-use Rattle.reader.specs.Record.{records, size_of}
+use Rattle.std.proofs.lemmas.Result.{err_from_is_err_and, IfOk-at_ok}
+use Rattle.std.proofs.lemmas.Bool.{eqb-true, eqb-false}
+use Rattle.reader.specs.Record.{records}
 use Rattle.reader.specs.Pairs.{gather, pairs_in}
 use Rattle.reader.proofs.Pairs.{pair_short, gather_done, gather_full, gather-cut, gather_refused, gather_more}
-use Rattle.reader.proofs.PairLists.{pairs_laid, laid_pairs, pairs_break}
+use Rattle.reader.proofs.PairLists.{pairs_told, pairs_laid, pairs_break, laid_pairs}
 use Rattle.reader.proofs.pair.read_pairs.Goals as goal
 
-pub loop-rest-init : goal.loop-rest-init
+pub loop-unread-init : goal.loop-unread-init
 unfolding pairs_in
-loop-rest-init c = (ap (λ ps. gather ps 0 (records c.args.bytes.now)) c.new-pairs.ensures, omega arith)
+loop-unread-init c =
+    let o = c.of-unread.ensures in
+    ((λ i. gather (c.new-pairs.ensures i) (o.at i) (records (o.rest i))), omega arith)
 
 pub returns-then-len-ge4096 : goal.returns-then-len-ge4096
 returns-then-len-ge4096 c =
-    let some = eqb-false (length c.loop-rest.rest.now) 0 (sym c.loop-rest-test.ensures) in
-    let e = sym (gather_full (items c.loop-rest.pairs) c.loop-rest.at c.loop-rest.rest.now (omega arith) (omega arith)) ∙ c.loop-rest.invariant.0 in
+    let some = eqb-false (length c.loop-unread.unread.rest.now) 0 (sym c.loop-unread-test.ensures) in
+    let e = sym (gather_full c.loop-unread.pairs c.loop-unread.unread.at c.loop-unread.unread.rest.now (omega arith) (omega arith)) ∙ c.loop-unread.invariant.0 in
     record { outcome = e; told = pairs_break c.args.bytes.now _ (sym e); reads = λ ps l. e ∙ laid_pairs c.args.bytes.now ps l }
 
-pub returns-in_default : goal.returns-in_default
-returns-in_default c =
-    let some = eqb-false (length c.loop-rest.rest.now) 0 (sym c.loop-rest-test.ensures) in
-    let e = sym (gather-cut (items c.loop-rest.pairs) c.loop-rest.at c.loop-rest.rest.now (omega arith) (omega arith) (sym c.in_default.ensures.front)) ∙ c.loop-rest.invariant.0 in
-    record { outcome = e; told = pairs_break c.args.bytes.now _ (sym e); reads = λ ps l. e ∙ laid_pairs c.args.bytes.now ps l }
+pub returns-in_err-placed : goal.returns-in_err-placed
+returns-in_err-placed c =
+    let some = eqb-false (length c.loop-unread.unread.rest.now) 0 (sym c.loop-unread-test.ensures) in
+    let p = err_from_is_err_and c.from_residual.result c.from_residual.ensures.1 in
+    let f = c.in_err-placed.ensures.stands in
+    let e : c.from_residual.result ≡ pairs_in c.args.bytes.now =
+    rw (p.1, p.2, f.1) (sym (gather-cut c.loop-unread.pairs c.loop-unread.unread.at c.loop-unread.unread.rest.now (omega arith) (omega arith) f.0) ∙ c.loop-unread.invariant.0) in
+    record { outcome = e; told = pairs_told c.args.bytes.now _ e; reads = λ ps l. e ∙ laid_pairs c.args.bytes.now ps l }
 
 pub returns-in_err-pair : goal.returns-in_err-pair
 returns-in_err-pair c =
-    let p = err_from_is_err_and c.from_residual.result c.from_residual.ensures.1 in
-    let e =
-    sym (gather_refused (items c.loop-rest.pairs) c.loop-rest.at c.loop-rest.rest.now _ _ (omega arith) (sym c.in-Some.ensures.front) (sym c.in_err-pair.ensures))
-    ∙ c.loop-rest.invariant.0 in
-    rw (p.1, p.2) (record { outcome = e; told = pairs_break c.args.bytes.now _ (sym e); reads = λ ps l. e ∙ laid_pairs c.args.bytes.now ps l })
+    let p = err_from_is_err_and c.from_residual-in_err-pair.result c.from_residual-in_err-pair.ensures.1 in
+    let t = c.in_ok-placed.ensures in
+    let e : c.from_residual-in_err-pair.result ≡ pairs_in c.args.bytes.now =
+    rw (p.1, p.2)
+    (sym (gather_refused c.loop-unread.pairs c.loop-unread.unread.at c.loop-unread.unread.rest.now _ _ (omega arith) t.stands (sym (rw (← t.place) c.in_err-pair.ensures))) ∙ c.loop-unread.invariant.0) in
+    record { outcome = e; told = pairs_told c.args.bytes.now _ e; reads = λ ps l. e ∙ laid_pairs c.args.bytes.now ps l }
 
-pub loop-rest-preserved : goal.loop-rest-preserved
-loop-rest-preserved c =
-    let ps = items c.loop-rest.pairs in
-    let room : length ps < 4096 = omega arith in
-    let went : c.push.result ≡ true = c.push.ensures.room ∙ lt-ltb (length ps) 4096 room in
-    let more : items c.push.new.self ≡ ps ++ c.in_ok-pair.pair ∷ [] = c.push.ensures.after ∙ ap (λ b. cond b (ps ++ c.in_ok-pair.pair ∷ []) ps) went in
-    let grown = ap length more ∙ length_push ps c.in_ok-pair.pair in
-    let short = pair_short c.loop-rest.at c.in-Some.record.kind c.in-Some.record.body.now c.in_ok-pair.pair (sym c.in_ok-pair.ensures) in (
-      ap (λ qs. gather qs (c.loop-rest.at + size_of c.in-Some.record.body.now) (records c.in-Some.behind.now)) more
-          ∙ sym (gather_more ps c.loop-rest.at c.loop-rest.rest.now _ c.in_ok-pair.pair room (sym c.in-Some.ensures.front) (sym c.in_ok-pair.ensures)) ∙ c.loop-rest.invariant.0,
+pub loop-unread-preserved : goal.loop-unread-preserved
+loop-unread-preserved c =
+    let t = c.in_ok-placed.ensures in
+    let told = sym (rw (← t.place) c.in_ok-pair.ensures) in
+    let more = IfOk-at_ok (λ _. c.push.new.self ≡ c.loop-unread.pairs ++ c.in_ok-pair.pair ∷ []) c.unwrap.ensures c.push.ensures.listed in
+    let grown = ap length more ∙ length_push c.loop-unread.pairs c.in_ok-pair.pair in
+    let short = pair_short c.loop-unread.unread.at c.in_ok-placed.placed.record.kind c.in_ok-placed.placed.record.body.now c.in_ok-pair.pair told in (
+      (λ i. gather (more i) (t.onward i) (records c.read_record.new.self.rest.now))
+          ∙ sym (gather_more c.loop-unread.pairs c.loop-unread.unread.at c.loop-unread.unread.rest.now _ c.in_ok-pair.pair (omega arith) t.stands told) ∙ c.loop-unread.invariant.0,
       omega arith,
     )
 
 pub returns : goal.returns
 returns c =
-    let empty = eqb-true (length c.loop-rest.rest.now) 0 (sym c.loop-rest-test.ensures) in
-    let e = sym (gather_done (items c.loop-rest.pairs) c.loop-rest.at c.loop-rest.rest.now empty) ∙ c.loop-rest.invariant.0 in
+    let empty = eqb-true (length c.loop-unread.unread.rest.now) 0 (sym c.loop-unread-test.ensures) in
+    let e = sym (gather_done c.loop-unread.pairs c.loop-unread.unread.at c.loop-unread.unread.rest.now empty) ∙ c.loop-unread.invariant.0 in
     record { outcome = e; told = pairs_laid c.args.bytes.now _ (sym e); reads = λ ps l. e ∙ laid_pairs c.args.bytes.now ps l }

@@ -1,11 +1,10 @@
 use Rattle.std.proofs.Common.{◌≡◌, ◌*◌, ◌≤◌, length}
-use Rattle.reader.specs.Listing.{items}
 use Rattle.reader.specs.Record.{records}
 use Rattle.reader.specs.Pairs.{gather, pairs_in}
 use Rattle.reader.proofs.pair.read_pairs.Given as goal
 
-abbrev pub invariant-loop-rest : goal.invariant-loop-rest
-invariant-loop-rest l = (gather (items l.pairs) l.at (records l.rest) ≡ pairs_in l.bytes) × (l.at ≤ 14 * length (items l.pairs))
+abbrev pub invariant-loop-unread : goal.invariant-loop-unread
+invariant-loop-unread l = (gather l.pairs l.unread.at (records l.unread.rest.now) ≡ pairs_in l.bytes) × (l.unread.at ≤ 14 * length l.pairs)
 
-abbrev pub decreases-loop-rest : goal.decreases-loop-rest
-decreases-loop-rest l = length l.rest
+abbrev pub decreases-loop-unread : goal.decreases-loop-unread
+decreases-loop-unread l = length l.unread.rest.now

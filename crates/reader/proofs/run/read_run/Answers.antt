@@ -1,32 +1,46 @@
-use Rattle.std.proofs.Common.{◌≡◌, ℕ, List, Ok, Err, Result, sym, ap, ◌∙◌, MatchResult}
+use Rattle.std.proofs.Common.{◌≡◌, Err, Result, sym, ap, ◌∙◌}
 use Rattle.std.proofs.lemmas.Bool.{eq-eqb, ne_eqb, cond-true, cond-false}
+use Rattle.std.proofs.lemmas.Result.{err_from_is_err_and}
+use Rattle.reader.specs.declared.kind.Kind.TheVariants.{Run}
 use Rattle.reader.specs.declared.evidence.EvidenceFault.{EvidenceFault}
-use Rattle.reader.specs.declared.run.Run.{Run}
-use Rattle.reader.specs.Evidence.{RunLaid, RunBreaks}
-use Rattle.reader.specs.Listing.{items}
-use Rattle.reader.specs.Run.{recorded, run_in, outcome}
-use Rattle.reader.proofs.RunLists.{run_laid, laid_run, run_breaks}
+use Rattle.reader.specs.Kind.{number}
+use Rattle.reader.specs.Record.{front}
+use Rattle.reader.specs.Run.{Told, recorded, run_in, outcome}
+use Rattle.reader.proofs.Unknown.{no_run}
+use Rattle.reader.proofs.RunLists.{run_told, run_breaks, laid_run}
 use Rattle.reader.proofs.run.read_run.Goals as goal
+
+pub returns-in_err-placed : goal.returns-in_err-placed
+unfolding run_in
+returns-in_err-placed c =
+    let o = c.of-unread.ensures in
+    let p = err_from_is_err_and c.from_residual.result c.from_residual.ensures.1 in
+    let f = c.in_err-placed.ensures.stands in
+    let e : outcome c.from_residual.result ≡ run_in c.args.bytes.now = rw (p.1, p.2, f.1, o.at) (sym (ap recorded (ap front (sym o.rest) ∙ f.0))) in
+    record { outcome = e; told = run_told c.args.bytes.now _ e; reads = λ g ms l. e ∙ laid_run c.args.bytes.now g ms l }
+
+pub returns-in_err-kind : goal.returns-in_err-kind
+unfolding run_in
+returns-in_err-kind c =
+    let o = c.of-unread.ensures in
+    let p = err_from_is_err_and c.from_residual-in_err-kind.result c.from_residual-in_err-kind.ensures.1 in
+    let f = c.in_err-kind.ensures in
+    let other = cond-false _ _ _ (ne_eqb c.in_ok-placed.placed.record.kind 18 (λ k. f.1 Run (sym k))) in
+    let e : outcome c.from_residual-in_err-kind.result ≡ run_in c.args.bytes.now = rw (p.1, p.2, f.0, c.in_ok-placed.ensures.place, o.at) (sym (ap recorded (ap front (sym o.rest) ∙ c.in_ok-placed.ensures.stands) ∙ other)) in
+    record { outcome = e; told = run_told c.args.bytes.now _ e; reads = λ g ms l. e ∙ laid_run c.args.bytes.now g ms l }
 
 pub returns-in_default : goal.returns-in_default
 unfolding run_in
 returns-in_default c =
-    let e = ap recorded c.in_default.ensures.front in
-    record { outcome = e; told = run_breaks c.args.bytes.now _ (sym e); reads = λ f ms l. e ∙ laid_run c.args.bytes.now f ms l }
-
-pub returns-then-record-ne18 : goal.returns-then-record-ne18
-unfolding run_in
-returns-then-record-ne18 c =
-    let e = sym (cond-false _ _ _ (ne_eqb c.in-Some.record.kind 18 c.if-record-ne18.true)) ∙ ap recorded c.in-Some.ensures.front in
-    record { outcome = e; told = run_breaks c.args.bytes.now _ (sym e); reads = λ f ms l. e ∙ laid_run c.args.bytes.now f ms l }
-
--- what the answer says of the bytes
-says : (bytes : List ℕ) (r : Result Run EvidenceFault) → outcome r ≡ run_in bytes → MatchResult r (λ run. RunLaid bytes run.ending (items run.moves)) (λ f. RunBreaks bytes f)
-says bytes (Ok run) e = run_laid bytes run.ending (items run.moves) (sym e)
-says bytes (Err f) e = run_breaks bytes f (sym e)
+    let o = c.of-unread.ensures in
+    let other = cond-false _ _ _ (ne_eqb c.in_ok-placed.placed.record.kind 18 (no_run c.in_ok-kind.field-0 _ c.in_default.not-Run c.in_ok-kind.ensures)) in
+    let e : ◌≡◌ {A = Result Told EvidenceFault} (Err c.into.result) (run_in c.args.bytes.now) = rw c.into.ensures (sym (ap recorded (ap front (sym o.rest) ∙ c.in_ok-placed.ensures.stands) ∙ other)) in
+    record { outcome = e; told = run_breaks c.args.bytes.now _ (sym e); reads = λ g ms l. e ∙ laid_run c.args.bytes.now g ms l }
 
 pub returns : goal.returns
 unfolding run_in
 returns c =
-    let e = c.read_body.ensures ∙ sym (cond-true _ _ _ (eq-eqb c.in-Some.record.kind 18 c.if-record-ne18.false)) ∙ ap recorded c.in-Some.ensures.front in
-    record { outcome = e; told = says c.args.bytes.now c.read_body.result e; reads = λ f ms l. e ∙ laid_run c.args.bytes.now f ms l }
+    let o = c.of-unread.ensures in
+    let is = sym c.in_ok-kind.ensures ∙ ap number c.in-Run.is in
+    let e = c.read_body.ensures ∙ sym (ap recorded (ap front (sym o.rest) ∙ c.in_ok-placed.ensures.stands) ∙ cond-true _ _ _ (eq-eqb c.in_ok-placed.placed.record.kind 18 is)) in
+    record { outcome = e; told = run_told c.args.bytes.now _ e; reads = λ g ms l. e ∙ laid_run c.args.bytes.now g ms l }

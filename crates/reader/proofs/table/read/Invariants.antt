@@ -5,11 +5,11 @@ use Rattle.reader.specs.Table.{opened}
 use Rattle.reader.proofs.Keeps.{Keeps, sized}
 use Rattle.reader.proofs.table.read.Given as goal
 
-abbrev pub invariant-loop-rest : goal.invariant-loop-rest
-invariant-loop-rest l =
-    (follow l.draft.row l.draft.stage l.at (records l.rest) ≡ opened l.bytes)
-    × (l.at ≡ sized l.draft.row l.draft.stage)
+abbrev pub invariant-loop-unread : goal.invariant-loop-unread
+invariant-loop-unread l =
+    (follow l.draft.row l.draft.stage l.unread.at (records l.unread.rest.now) ≡ opened l.bytes)
+    × (l.unread.at ≡ sized l.draft.row l.draft.stage)
     × Keeps l.draft.row
 
-abbrev pub decreases-loop-rest : goal.decreases-loop-rest
-decreases-loop-rest l = length l.rest
+abbrev pub decreases-loop-unread : goal.decreases-loop-unread
+decreases-loop-unread l = length l.unread.rest.now

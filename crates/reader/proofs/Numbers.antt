@@ -1,0 +1,22 @@
+-- The numbers that bytes spell.
+use Rattle.std.proofs.Common.{◌≡◌, ℕ, zero, suc, ◌+◌, ◌*◌, ◌<◌, ◌≤◌, List, [], ◌∷◌, length, get_or, take, drop, ap, ◌∙◌, ◌-◌, take_all, Fits, w8, arith}
+use Rattle.std.specs.Prelude.{◌^◌}
+use Rattle.std.proofs.Math.Nat.{pow-succ'}
+use Rattle.reader.specs.Number.{little}
+
+-- bytes spell less than 256 to the power of their number
+pub little_small : (xs : List ℕ) (n : ℕ) → length xs ≤ n → ((i : ℕ) → Fits w8 (get_or xs i 0)) → little xs < 256 ^ n
+little_small [] zero h f = omega arith
+little_small [] (suc n) h f = let less = little_small [] n (omega arith) f in rw (pow-succ' 256 n) (omega arith)
+little_small (b ∷ xs) zero h f = absurd (omega arith)
+little_small (b ∷ xs) (suc n) h f =
+    let less = little_small xs n (omega arith) (λ i. f (suc i)) in
+    let low = f 0 in
+    rw (pow-succ' 256 n) (omega arith)
+
+-- what the pattern of some bytes gives
+pub little_front : (xs : List ℕ) (low high : ℕ) → 1 ≤ length xs → low ≡ get_or xs 0 0 → high ≡ little (take (length xs - 1) (drop 1 xs)) → low + 256 * high ≡ little xs
+little_front [] low high h l u = absurd (omega arith)
+little_front (b ∷ xs) low high h l u =
+    let rest : high ≡ little xs = u ∙ ap little (take_all (length (b ∷ xs) - 1) xs (omega arith)) in
+    omega arith
