@@ -2,6 +2,7 @@
 #![tactic(auto)]
 
 mod lines;
+mod parts;
 mod text;
 
-pub use text::{Shown, refused_text, row_text, show_table};
+pub use text::{refused_text, row_text, show_table};

@@ -1,22 +1,21 @@
 // Evidence: what is read, and each refusal at its place.
-use reader::{Ending, Move, Pair, read_pairs, read_run};
-use std::alloc::Global;
+use reader::{Ending, EvidenceFault, Move, Pair, read_pairs, read_run};
+use std::alloc::{AllocError, Global};
 use std::test::Fail;
 
-// How many pairs are read, with zeros, or zero with the number and the place of the refusal.
-fn pairs_verdict(bytes: &[u8]) -> (usize, u8, u32) {
-    match read_pairs(bytes) {
-        Ok(pairs) => (pairs.len(), 0, 0),
-        Err(fault) => (0, fault.number(), fault.place()),
-    }
+// The number and the place of a refusal.
+fn told(fault: EvidenceFault) -> (u8, u32) {
+    (fault.number(), fault.place())
 }
 
-// The same for the moves of a run.
-fn run_verdict(bytes: &[u8]) -> (usize, u8, u32) {
-    match read_run(bytes) {
-        Ok(run) => (run.moves.len(), 0, 0),
-        Err(fault) => (0, fault.number(), fault.place()),
-    }
+// How many pairs are read.
+fn pairs_verdict(bytes: &[u8]) -> Result<usize, (u8, u32)> {
+    read_pairs(bytes).map(|pairs| pairs.len()).map_err(told)
+}
+
+// How many moves are read.
+fn run_verdict(bytes: &[u8]) -> Result<usize, (u8, u32)> {
+    read_run(bytes).map(|run| run.moves.len()).map_err(told)
 }
 
 #[test]
@@ -26,21 +25,19 @@ fn narrow_and_wide_pairs(rt: HostRuntime) -> Result<(), Fail> {
     let Ok(pairs) = read_pairs(bytes) else {
         return Err(Fail::new("two pairs"));
     };
-    let list = pairs.as_slice();
-    assert!(rt; list.len() == 2);
     assert_eq!(rt;
-        list[0],
-        Pair {
-            state: 0x1234,
-            set: 0x0102,
-        }
-    );
-    assert_eq!(rt;
-        list[1],
-        Pair {
-            state: 1,
-            set: 0x8007_0605_0403_0201,
-        }
+        pairs.as_slice(),
+        [
+            Pair {
+                state: 0x1234,
+                set: 0x0102,
+            },
+            Pair {
+                state: 1,
+                set: 0x8007_0605_0403_0201,
+            },
+        ]
+        .as_slice()
     );
     Ok(())
 }
@@ -71,30 +68,36 @@ const NO_PAIRS: [(&[u8], u8, u32); 5] = [
 
 #[test]
 fn refused_pairs(rt: HostRuntime) {
-    assert_eq!(rt; pairs_verdict(b""), (0, 0, 0));
+    assert_eq!(rt; pairs_verdict(b""), Ok(0));
     for (bytes, number, place) in NO_PAIRS {
-        assert_eq!(rt; pairs_verdict(bytes), (0, number, place));
+        assert_eq!(rt; pairs_verdict(bytes), Err((number, place)));
     }
 }
 
-// The same pair n times.
-fn many_pairs(heap: Global, n: u16) -> Result<Vec<u8>, Fail> {
+// A head, and then the same part n times.
+fn repeated(heap: Global, head: &[u8], part: &[u8], n: u16) -> Result<Vec<u8>, AllocError> {
     let mut bytes = Vec::new(heap);
+    bytes.extend_from_slice(head)?;
     for _ in 0..n {
-        bytes.extend_from_slice(b"\x04\x00\x10\x00\x00\x00\x01\x00")?;
+        bytes.extend_from_slice(part)?;
     }
     Ok(bytes)
+}
+
+// The same pair n times.
+fn many_pairs(heap: Global, n: u16) -> Result<Vec<u8>, AllocError> {
+    repeated(heap, b"", b"\x04\x00\x10\x00\x00\x00\x01\x00", n)
 }
 
 #[test]
 fn pairs_4096_and_4097(rt: HostRuntime) -> Result<(), Fail> {
     let mut bytes = many_pairs(rt.alloc(), 4096)?;
-    assert_eq!(rt; pairs_verdict(bytes.as_slice()), (4096, 0, 0));
+    assert_eq!(rt; pairs_verdict(bytes.as_slice()), Ok(4096));
     bytes.push(0)?;
-    assert_eq!(rt; pairs_verdict(bytes.as_slice()), (0, 14, 4096));
+    assert_eq!(rt; pairs_verdict(bytes.as_slice()), Err((14, 4096)));
     assert_eq!(rt;
         pairs_verdict(many_pairs(rt.alloc(), 4097)?.as_slice()),
-        (0, 14, 4096)
+        Err((14, 4096))
     );
     Ok(())
 }
@@ -105,24 +108,22 @@ fn runs_and_endings(rt: HostRuntime) -> Result<(), Fail> {
         return Err(Fail::new("two moves"));
     };
     assert_eq!(rt; run.ending, Ending::Unaccepted(5));
-    let moves = run.moves.as_slice();
-    assert!(rt; moves.len() == 2);
     assert_eq!(rt;
-        moves[0],
-        Move {
-            action: 1,
-            state: 0x0102,
-        }
+        run.moves.as_slice(),
+        [
+            Move {
+                action: 1,
+                state: 0x0102,
+            },
+            Move {
+                action: 0,
+                state: 3,
+            },
+        ]
+        .as_slice()
     );
-    assert_eq!(rt;
-        moves[1],
-        Move {
-            action: 0,
-            state: 3,
-        }
-    );
-    assert_eq!(rt; run_verdict(b"\x02\x00\x12\x00\x01\x00"), (0, 0, 0));
-    assert_eq!(rt; run_verdict(b"\x02\x00\x12\x00\x02\x00"), (0, 0, 0));
+    assert_eq!(rt; run_verdict(b"\x02\x00\x12\x00\x01\x00"), Ok(0));
+    assert_eq!(rt; run_verdict(b"\x02\x00\x12\x00\x02\x00"), Ok(0));
     Ok(())
 }
 
@@ -148,32 +149,25 @@ const NO_RUN: [(&[u8], u8, u32); 10] = [
 #[test]
 fn refused_runs(rt: HostRuntime) {
     for (bytes, number, place) in NO_RUN {
-        assert_eq!(rt; run_verdict(bytes), (0, number, place));
+        assert_eq!(rt; run_verdict(bytes), Err((number, place)));
     }
 }
 
 // A run of n moves.
-fn many_moves(heap: Global, n: u16) -> Result<Vec<u8>, Fail> {
-    let mut bytes = Vec::new(heap);
-    let length = u32::from(n) * 3 + 2;
-    bytes.push((length % 256) as u8)?;
-    bytes.push((length / 256 % 256) as u8)?;
-    bytes.extend_from_slice(b"\x12\x00\x01\x00")?;
-    for _ in 0..n {
-        bytes.extend_from_slice(b"\x00\x00\x00")?;
-    }
-    Ok(bytes)
+fn many_moves(heap: Global, n: u16) -> Result<Vec<u8>, AllocError> {
+    let [low, high, ..] = (u32::from(n) * 3 + 2).to_le_bytes();
+    repeated(heap, &[low, high, 0x12, 0, 1, 0], &[0; 3], n)
 }
 
 #[test]
 fn moves_4096_and_4097(rt: HostRuntime) -> Result<(), Fail> {
     assert_eq!(rt;
         run_verdict(many_moves(rt.alloc(), 4096)?.as_slice()),
-        (4096, 0, 0)
+        Ok(4096)
     );
     assert_eq!(rt;
         run_verdict(many_moves(rt.alloc(), 4097)?.as_slice()),
-        (0, 24, 4097)
+        Err((24, 4097))
     );
     Ok(())
 }

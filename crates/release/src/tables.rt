@@ -3,7 +3,7 @@ ghost use Rattle.std.specs.Prelude.{◌≡◌, is_ok, IfOk};
 ghost use Rattle.reader.specs.Table.{opened};
 
 use crate::help::{failure, usage};
-use printing::{Shown, show_table};
+use printing::show_table;
 use std::env::Args;
 use std::{fs, io};
 
@@ -14,9 +14,7 @@ pub fn tables(rt: &HostRuntime, files: Args) -> io::Result<()> {
     }
     let mut sound = true;
     for file in files {
-        if !show_file(rt, file.as_str())? {
-            sound = false;
-        }
+        sound &= show_file(rt, file.as_str())?;
     }
     if sound { Ok(()) } else { failure() }
 }
@@ -36,7 +34,9 @@ fn show_file(rt: &HostRuntime, file: &str) -> io::Result<bool> {
 pub fn show(rt: &HostRuntime, bytes: &[u8]) -> io::Result<bool>
     ensures { IfOk result (λ b. b ≡ is_ok (opened bytes.now)) }
 {
-    let Shown { sound, text } = show_table(rt.alloc(), bytes)?;
+    let shown = show_table(rt.alloc(), bytes)?;
+    let sound = shown.is_ok();
+    let (Ok(text) | Err(text)) = shown;
     rt.print(text)?;
     Ok(sound)
 }
