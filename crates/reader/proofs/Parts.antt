@@ -1,8 +1,8 @@
 -- A table's records, part by part: what following them gives.
 use Rattle.std.proofs.Common.{◌≡◌, ℕ, ◌+◌, ◌<◌, ◌≤◌, true, false, List, [], ◌∷◌, Ok, sym, refl, ap, ◌∙◌, arith}
+use Rattle.std.specs.List.{fold}
 use Rattle.std.proofs.lemmas.Bool.{le-leb, lt-ltb}
 use Rattle.std.proofs.lemmas.Bool.Decides.{nat_tests}
-use Rattle.std.specs.List.{fold}
 use Rattle.semantics.specs.declared.way.Way.{Way}
 use Rattle.semantics.specs.Way.{number}
 use Rattle.reader.specs.declared.row.Row.{Row}
