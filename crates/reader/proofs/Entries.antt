@@ -1,5 +1,5 @@
 -- What the records that a draft takes in look like, and what each makes of it.
-use Rattle.std.proofs.Common.{◌≡◌, ℕ, ◌<◌, ◌≤◌, true, false, Bool, cond, ltb, ◌⊎◌, List, [], ◌∷◌, Ok, Err, refl, inl, inr, arith}
+use Rattle.std.proofs.Common.{◌≡◌, ℕ, ◌<◌, ◌≤◌, Bool, true, false, cond, ltb, ◌⊎◌, List, [], ◌∷◌, Ok, Err, refl, inl, inr, arith}
 use Rattle.std.proofs.lemmas.Bool.{ltb-true}
 use Rattle.std.proofs.lemmas.Bool.Decides.{nat_tests}
 use Rattle.reader.specs.declared.fault.Fault.TheVariants.{Kind, Value, Repeated, Overfull}
@@ -8,8 +8,8 @@ use Rattle.reader.specs.declared.row.Step.{Step}
 use Rattle.reader.specs.declared.stage.Stage.{Stage}
 use Rattle.reader.specs.declared.stage.Stage.TheVariants.{Head, Actions, Steps, Errors, Closed}
 use Rattle.reader.specs.Row.{blank, way_of, error_at, listed, told, declared, fitting}
-use Rattle.reader.proofs.Outcomes.{cond_ok}
 use Rattle.reader.specs.Draft.{with_way, with_step, with_error, headed, way_from, acted, stepped, failed, ended, due, staged, taken, entered}
+use Rattle.reader.proofs.Outcomes.{cond_ok}
 
 -- a record that passes, by its kind
 pub data Entry (r : Row) (stage : Stage) (kind : ℕ) (body : List ℕ) (r' : Row) (stage' : Stage) : Type 0 where

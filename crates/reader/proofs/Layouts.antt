@@ -1,6 +1,7 @@
 -- Bytes open as a table exactly where they are the records of a lawful content.
 use Rattle.std.proofs.Common.{◌≡◌, ℕ, zero, suc, ◌+◌, ◌-◌, ◌<◌, ◌≤◌, true, false, ◌||◌, List, [], ◌∷◌, length, get_or, replicate, Ok, sym, refl, ap, ◌∙◌, arith, length-set}
 use Rattle.std.specs.List.{AllByRecursion}
+use Rattle.std.proofs.lemmas.List.Elements.{recursion_from_All}
 use Rattle.semantics.specs.declared.way.Way.TheVariants.{Absent}
 use Rattle.semantics.proofs.Words.{all_map}
 use Rattle.reader.specs.declared.row.Row.{Row}
@@ -13,7 +14,6 @@ use Rattle.reader.specs.Table.{opened}
 use Rattle.reader.specs.Layout.{Action, Content, Once, way_in, fits, tabled, member, row_of, Lays, LaidOut}
 use Rattle.reader.proofs.Rows.{way_inside, get_or_alike}
 use Rattle.reader.proofs.Parts.{all_ways, all_steps, all_errors, table_told, follow_table}
-use Rattle.std.proofs.lemmas.List.Elements.{recursion_from_All}
 use Rattle.reader.proofs.Contents.{Held, Wide, Sized, ways_once, once_ways, ways_in, fresh-blank, steps_once, once_steps, untold_none, steps_placed, errors_once, once_errors, errors_in}
 
 -- what the ways, the steps and the errors of a row leave as it was

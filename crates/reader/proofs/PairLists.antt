@@ -4,7 +4,6 @@ use Rattle.std.proofs.lemmas.List.{append-nil, append_assoc, length_push}
 use Rattle.std.proofs.lemmas.Bool.{cond_both, ltb-true, ltb-false}
 use Rattle.std.proofs.lemmas.Bool.Decides.{nat_tests}
 use Rattle.reader.specs.declared.fault.Fault as faults
-use Rattle.reader.specs.declared.fault.Fault.TheVariants.{Cut}
 use Rattle.reader.specs.declared.evidence.EvidenceFault as evidence
 use Rattle.reader.specs.declared.evidence.EvidenceFault.TheVariants.{Record, Pairs, Moves}
 use Rattle.reader.specs.declared.pair.Pair.{Pair}
@@ -46,11 +45,11 @@ gathered : (rs : Records) (qs : List Pair) (at : ℕ) → length qs ≤ 4096 →
 unfolding gather
 gathered none qs at h = ([], [], refl, tt, sym (append-nil qs), h)
 gathered cut qs at h =
-    cond_both (ltb (length qs) 4096) (Err (Record (Cut at))) (Err Pairs) (Gathered qs at cut)
+    cond_both (ltb (length qs) 4096) _ _ (Gathered qs at cut)
     (λ room. let r = ltb-true (length qs) 4096 room in ([], [], cut, refl, tt, (omega arith, omega arith, refl)))
     (λ full. let r = ltb-false (length qs) 4096 full in ([], [], cut, refl, tt, (omega arith, λ e. cc)))
 gathered (next kind body rest) qs at h =
-    cond_both (ltb (length qs) 4096) _ (Err Pairs) (Gathered qs at (next kind body rest))
+    cond_both (ltb (length qs) 4096) _ _ (Gathered qs at (next kind body rest))
     (λ room. go (pair_of at kind body) refl (ltb-true (length qs) 4096 room) (gathered rest))
     (λ full. let r = ltb-false (length qs) 4096 full in ([], [], next kind body rest, refl, tt, (omega arith, λ e. cc)))
   where

@@ -1,10 +1,8 @@
 -- Bytes are read as a run exactly where they are one record that tells it.
-use Rattle.std.proofs.Common.{◌≡◌, ℕ, zero, suc, ◌+◌, ◌*◌, ◌/◌, ◌%◌, ◌<◌, ◌≤◌, cond, eqb, leb, MatchResult, List, [], ◌∷◌, length, Some, None, Ok, Err, Option, Result, sym, refl, ap, ◌∙◌, inl, inr, ⊎_elim, arith}
+use Rattle.std.proofs.Common.{◌≡◌, ℕ, zero, suc, ◌*◌, ◌/◌, ◌%◌, ◌<◌, ◌≤◌, eqb, leb, MatchResult, List, [], ◌∷◌, length, Some, None, Ok, Err, Option, Result, sym, refl, ap, ◌∙◌, inl, inr, ⊎_elim, arith}
 use Rattle.std.proofs.lemmas.Bool.{cases_lt, cond_both, eqb-true, eqb-false, leb-true, leb-false}
 use Rattle.std.proofs.lemmas.Bool.Decides.{nat_tests}
-use Rattle.reader.specs.declared.fault.Fault.TheVariants.{Kind, Length, Trailing}
 use Rattle.reader.specs.declared.evidence.EvidenceFault.{EvidenceFault}
-use Rattle.reader.specs.declared.evidence.EvidenceFault.TheVariants.{Record, Moves}
 use Rattle.reader.specs.declared.run.Ending.{Ending}
 use Rattle.reader.specs.declared.run.Move.{Move}
 use Rattle.reader.specs.declared.run.Run.{Run}
@@ -41,7 +39,7 @@ module _ (bytes : List ℕ) (behind : List ℕ) where
   alone_read e i moves is div few (Some ending) told =
       let n = length moves / 3 in
       let whole : length moves ≡ 3 * n = omega arith in
-      cond_both (eqb (length behind) 0) (Ok (ending, moves_in moves)) (Err (Record (Trailing (6 + length moves)))) (RunRead (records bytes))
+      cond_both (eqb (length behind) 0) _ _ (RunRead (records bytes))
       (λ t.
       let ms = moves_told n moves whole in
       let count = ms.1 in
@@ -52,10 +50,10 @@ module _ (bytes : List ℕ) (behind : List ℕ) where
 
   moved_read : (e i : ℕ) (moves : List ℕ) → records bytes ≡ next 18 (e ∷ i ∷ moves) (records behind) → RunRead (records bytes) (moved e i moves behind)
   moved_read e i moves is =
-      cond_both (eqb (length moves % 3) 0) (cond (leb (length moves / 3) 4096) (alone moves behind (ending_of e i)) (Err (Moves (length moves / 3)))) (Err (Record (Length 0))) (RunRead (records bytes))
+      cond_both (eqb (length moves % 3) 0) _ _ (RunRead (records bytes))
       (λ t.
       let div = eqb-true (length moves % 3) 0 t in
-      cond_both (leb (length moves / 3) 4096) (alone moves behind (ending_of e i)) (Err (Moves (length moves / 3))) (RunRead (records bytes))
+      cond_both (leb (length moves / 3) 4096) _ _ (RunRead (records bytes))
       (λ u. alone_read e i moves is div (leb-true (length moves / 3) 4096 u) (ending_of e i) refl)
       (λ u. (e, i, records behind, (moves, is, omega arith), leb-false (length moves / 3) 4096 u)))
       (λ t.
@@ -78,7 +76,7 @@ run_read bytes = go (front bytes) refl
         (λ (h : length bytes ≤ 0). (refl, inl (records-none bytes (omega arith))))
         (cases_lt 0 (length bytes))
     go (Some t) e =
-        cond_both (eqb t.0 18) (embodied t.1 t.2) (Err (Record (Kind 0))) (RunRead (records bytes))
+        cond_both (eqb t.0 18) _ _ (RunRead (records bytes))
         (λ k. embodied_read bytes t.2 t.1 (records-next bytes t e ∙ ap (λ n. next n t.1 (records t.2)) (eqb-true t.0 18 k)))
         (λ k. (refl, (t.0, t.1, records t.2, records-next bytes t e, eqb-false t.0 18 k)))
 

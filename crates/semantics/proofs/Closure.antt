@@ -1,6 +1,6 @@
 -- Sets of numbers, and that a set grown as often as there are numbers is closed.
 use Rattle.std.proofs.Common.{◌≡◌, ℕ, zero, suc, ◌<◌, ◌≤◌, Bool, true, false, cond, not, ◌&&◌, ◌⊎◌, inl, inr, arith}
-use Rattle.std.proofs.lemmas.Bool.{and_parts, and_from, or_cases, or_left, or_right, not-true, not_from_false, both_ways, cases_Bool, cases_eq}
+use Rattle.std.proofs.lemmas.Bool.{and_parts, and_from, or_cases, or_left, or_right, not-true, not_from_false, both_ways, cases_Bool, cases_eq, true_from_ne_false}
 use Rattle.semantics.specs.Deciding.{meets, grown, grown_by, closure}
 use Rattle.semantics.proofs.Search.{any_view, any_make}
 
@@ -54,7 +54,7 @@ pub data Steps (R : ℕ → ℕ → Bool) : ℕ → ℕ → Type 0 where
   stay : {p : ℕ} → Steps R p p
   go_on : {p q r : ℕ} → R p q ≡ true → Steps R q r → Steps R p r
 
-pub one_more : {R : ℕ → ℕ → Bool} {p q r : ℕ} → Steps R p q → R q r ≡ true → Steps R p r
+one_more : {R : ℕ → ℕ → Bool} {p q r : ℕ} → Steps R p q → R q r ≡ true → Steps R p r
 one_more stay s = go_on s stay
 one_more (go_on t u) s = go_on t (one_more u s)
 
@@ -118,10 +118,7 @@ module _ (R : ℕ → ℕ → Bool) (n : ℕ) where
     grows_not X w q h =
         elim (grown_view X q h) [
           | inl x ↦ x
-          | inr (p, i, x, s) ↦ elim (cases_Bool (X q)) [
-            | inl y ↦ y
-            | inr y ↦ absurd (both_ways (grows X) w (meets_make n (grown R n X) (λ q. not (X q)) (inside p q s).1 h (not_from_false (X q) y)))
-          ]
+          | inr (p, i, x, s) ↦ true_from_ne_false (X q) (λ y. both_ways (grows X) w (meets_make n (grown R n X) (λ q. not (X q)) (inside p q s).1 h (not_from_false (X q) y)))
         ]
 
     grows_more : (X : ℕ → Bool) → grows X ≡ true → suc (count X n) ≤ count (grown R n X) n

@@ -1,11 +1,11 @@
 -- What a composable pair of systems does, and a system that does the same, by numbers for pairs of states.
 use Rattle.std.proofs.Common.{◌≡◌, ℕ, ◌<◌, true, false, ◌⊎◌, refl, ap, ◌∙◌, inl, inr}
 use lib.Arith.{digits_div, digits_mod}
-use Rattle.std.proofs.lemmas.Bool.{both_ways}
+use Rattle.std.proofs.lemmas.Bool.{false_from_ne_true, both_ways}
 use Rattle.semantics.specs.declared.way.Way.TheVariants.{Absent, Input}
 use Rattle.semantics.specs.System.{System, WellFormed, accepts}
 use Rattle.semantics.specs.Coupling.{Synced, Composable, pair_number, joined, CoupledStep, first, second, both, CoupledError, first_fails, second_fails, second_misses, first_misses, couple}
-use Rattle.semantics.proofs.Search.{false_if, accepts_view, accepts_make}
+use Rattle.semantics.proofs.Search.{accepts_view, accepts_make}
 use Rattle.semantics.proofs.Ways.{synced_swap, lone, lone_left, joined_comm, joined_input}
 use Rattle.semantics.proofs.Couplings.{one, two, step_view, step_make, error_view, error_make, coupling_is_well_formed_lem, parts_in, pair_parts}
 
@@ -100,10 +100,10 @@ module _ (a c : System) (wfa : WellFormed a) (wfc : WellFormed c) where
           step_make = make;
           error_view = λ {z} e. (error_view a c z e).1;
           error_make = error_make a c wfa wfc;
-          misses_left = λ {z} {x} hz i h n. false_if (λ t. let (p', s) = accepts_view a (one c z) x t in both_ways _ n (takes hz (left x h s)));
-          misses_right = λ {z} {x} hz h i n. false_if (λ t. let (q', s) = accepts_view c (two c z) x t in both_ways _ n (takes hz (right x h s)));
-          left_misses = λ {p} {q} {x} hp hq i h n. false_if (λ t. let (p', q', s) = taken hq t in both_ways _ n (accepts_make wfa (only_left wfa i s)));
-          right_misses = λ {p} {q} {x} hp hq h i n. false_if (λ t. let (p', q', s) = taken hq t in both_ways _ n (accepts_make wfc (only_right wfc i s)));
+          misses_left = λ {z} {x} hz i h n. false_from_ne_true _ (λ t. let (p', s) = accepts_view a (one c z) x t in both_ways _ n (takes hz (left x h s)));
+          misses_right = λ {z} {x} hz h i n. false_from_ne_true _ (λ t. let (q', s) = accepts_view c (two c z) x t in both_ways _ n (takes hz (right x h s)));
+          left_misses = λ {p} {q} {x} hp hq i h n. false_from_ne_true _ (λ t. let (p', q', s) = taken hq t in both_ways _ n (accepts_make wfa (only_left wfa i s)));
+          right_misses = λ {p} {q} {x} hp hq h i n. false_from_ne_true _ (λ t. let (p', q', s) = taken hq t in both_ways _ n (accepts_make wfc (only_right wfc i s)));
         }
 
 -- ---- the same with the sides exchanged

@@ -1,5 +1,5 @@
 -- A run of a pair taken apart, into a run of one system and the part of the other in it, and put together again.
-use Rattle.std.proofs.Common.{◌≡◌, ℕ, ◌<◌, true, false, ◌≢◌, ◌⊎◌, List, [], ◌∷◌, ◌++◌, refl, ◌∙◌, subst, inl, inr, append_assoc}
+use Rattle.std.proofs.Common.{◌≡◌, ℕ, ◌<◌, true, false, ◌≢◌, ◌⊎◌, List, [], ◌∷◌, ◌++◌, refl, ap, ◌∙◌, subst, inl, inr, append_assoc, append-nil, arith}
 use Rattle.std.proofs.lemmas.Bool.{cases_Bool}
 use Rattle.semantics.specs.declared.way.Way.{Way}
 use Rattle.semantics.specs.declared.way.Way.TheVariants.{Absent, Input, Output}
@@ -8,7 +8,6 @@ use Rattle.semantics.specs.Trace.{Runs, here, quiet, letter, Outputs, Prefix, Il
 use Rattle.semantics.specs.Coupling.{Synced, Composable, first_fails, second_misses}
 use Rattle.semantics.proofs.Search.{accepts_view}
 use Rattle.semantics.proofs.Ways.{synced_present, present_nonzero}
-use Rattle.semantics.proofs.Words.{prefix_cons, prefix_refl, middle≢nil}
 use Rattle.semantics.proofs.Runs.{runs_append, runs_letter, runs_in}
 use Rattle.semantics.proofs.Pairs.{PairStep, left, right, joint, Implements}
 
@@ -59,55 +58,54 @@ module _ {a c : System} (wfa : WellFormed a) where
   project I (quiet s t) = quiet_on refl (I.step_view s) (project I t)
   project I (letter x n s t) = letter_on n (I.step_view s) (project I t)
 
--- the part up to a prefix of the other's word
+-- the part up to a prefix of the other's word, and behind it
+part_split : {ways : ℕ → Way} {c : System} {q r : ℕ} {u w : List ℕ} (v s : List ℕ) → Part ways c q u w r → v ++ s ≡ u
+    → (q' : ℕ) × (w₁ : List ℕ) × (w₂ : List ℕ) × Part ways c q v w₁ q' × Part ways c q' s w₂ r × (w₁ ++ w₂ ≡ w)
+part_split {q = q} [] s done e = (q, [], [], done, rw e done, refl)
+part_split (x ∷ v) s done e = cc
+part_split v s (inner k m) e = let (q', w₁, w₂, h, t, j) = part_split v s m e in (q', w₁, w₂, inner k h, t, j)
+part_split v s (own y n a k m) e = let (q', w₁, w₂, h, t, j) = part_split v s m e in (q', y ∷ w₁, w₂, own y n a k h, t, ap (λ z. y ∷ z) j)
+part_split {q = q} [] s (theirs {w = w} y a m) e = (q, [], y ∷ w, done, rw e (theirs y a m), refl)
+part_split {q = q} [] s (shared {w = w} y a k m) e = (q, [], w, done, rw e (shared y a k m), refl)
+part_split {ways} {c} {q} (x ∷ v) s (theirs y a m) e =
+    let (q', w₁, w₂, h, t, j) = part_split v s m (cc) in
+    let same : y ≡ x = cc in
+    (q', y ∷ w₁, w₂, subst (λ k. Part ways c q (k ∷ v) (y ∷ w₁) q') same (theirs y a h), t, ap (λ z. y ∷ z) j)
+part_split {ways} {c} {q} (x ∷ v) s (shared y a k m) e =
+    let (q', w₁, w₂, h, t, j) = part_split v s m (cc) in
+    let same : y ≡ x = cc in
+    (q', w₁, w₂, subst (λ k. Part ways c q (k ∷ v) w₁ q') same (shared y a k h), t, j)
+
 pub part_front : {ways : ℕ → Way} {c : System} {q r : ℕ} {u w : List ℕ} (v : List ℕ) → Part ways c q u w r → Prefix v u
     → (q' : ℕ) × (w' : List ℕ) × Part ways c q v w' q' × Prefix w' w
-part_front {q = q} [] done h = (q, [], done, prefix_refl [])
-part_front (x ∷ v) done (s, e) = cc
-part_front v (inner k m) h = let (q', w', m', pre) = part_front v m h in (q', w', inner k m', pre)
-part_front v (own {w = w} y n a k m) h =
-    let (q', w', m', pre) = part_front v m h in (q', y ∷ w', own y n a k m', prefix_cons y w' w pre)
-part_front {q = q} [] (theirs {w = w} y a m) h = (q, [], done, (y ∷ w, refl))
-part_front {q = q} [] (shared {w = w} y a k m) h = (q, [], done, (w, refl))
-part_front {ways} {c} {q} (x ∷ v) (theirs {w = w} y a m) (s, e) =
-    let (q', w', m', pre) = part_front v m (s, cc) in
-    let same : y ≡ x = cc in
-    (q', y ∷ w', subst (λ k. Part ways c q (k ∷ v) (y ∷ w') q') same (theirs y a m'), prefix_cons y w' w pre)
-part_front {ways} {c} {q} (x ∷ v) (shared y a k m) (s, e) =
-    let (q', w', m', pre) = part_front v m (s, cc) in
-    let same : y ≡ x = cc in
-    (q', w', subst (λ k. Part ways c q (k ∷ v) w' q') same (shared y a k m'), pre)
+part_front v m (s, e) = let (q', w₁, w₂, h, t, j) = part_split v s m e in (q', w₁, h, (w₂, j))
 
 -- how c meets the other's letter x: it takes part in it, or does not have it
 abbrev pub MeetsLetter : (ways : ℕ → Way) (c : System) (q : ℕ) (x : ℕ) (w' w : List ℕ) → Type 0
 MeetsLetter ways c q x w' w =
     (Synced (ways x) (c.way x) × ((q₂ : ℕ) × (c.step q x q₂ ≡ true)) × Prefix w' w) ⊎ ((c.way x ≡ Absent) × Prefix (w' ++ (x ∷ [])) w)
 
-meets_letter_cons : (ways : ℕ → Way) (c : System) (q x y : ℕ) (w' w : List ℕ) → MeetsLetter ways c q x w' w → MeetsLetter ways c q x (y ∷ w') (y ∷ w)
-meets_letter_cons ways c q x y w' w (inl (h, k, pre)) = inl (h, k, prefix_cons y w' w pre)
-meets_letter_cons ways c q x y w' w (inr (h, pre)) = inr (h, prefix_cons y (w' ++ (x ∷ [])) w pre)
+meets_letter_behind : (ways : ℕ → Way) (c : System) (q x : ℕ) (v w' u w : List ℕ) → v ++ u ≡ w → MeetsLetter ways c q x w' u → MeetsLetter ways c q x (v ++ w') w
+meets_letter_behind ways c q x v w' u w j (inl (h, k, (z, e))) = inl (h, k, (z, grind (arith, append_assoc {A = ℕ})))
+meets_letter_behind ways c q x v w' u w j (inr (h, (z, e))) = inr (h, (z, grind (arith, append_assoc {A = ℕ})))
+
+-- what c does by itself before the other's first letter
+part_letter : {ways : ℕ → Way} {c : System} {q r x : ℕ} {s w : List ℕ} → Part ways c q (x ∷ s) w r
+    → (q' : ℕ) × (w' : List ℕ) × Part ways c q [] w' q' × MeetsLetter ways c q' x w' w
+part_letter (inner k m) = let (q', w', h, t) = part_letter m in (q', w', inner k h, t)
+part_letter {ways} {c} {x = x} (own {w = w} y n a k m) =
+    let (q', w', h, t) = part_letter m in
+    (q', y ∷ w', own y n a k h, meets_letter_behind ways c q' x (y ∷ []) w' w (y ∷ w) refl t)
+part_letter {q = q} (theirs {w = w} x a m) = (q, [], done, inr (a, (w, refl)))
+part_letter {q = q} (shared {q' = q₁} {w = w} x a k m) = (q, [], done, inl (a, (q₁, k), (w, refl)))
 
 -- the part up to the letter x behind a prefix of the other's word
 pub part_before : {ways : ℕ → Way} {c : System} {q r : ℕ} {u w : List ℕ} (v : List ℕ) (x : ℕ) → Part ways c q u w r → Prefix (v ++ (x ∷ [])) u
     → (q' : ℕ) × (w' : List ℕ) × Part ways c q v w' q' × MeetsLetter ways c q' x w' w
-part_before v x done (s, e) = absurd (middle≢nil v s x (rw append_assoc at e))
-part_before v x (inner k m) h = let (q', w', m', t) = part_before v x m h in (q', w', inner k m', t)
-part_before {ways} {c} v x (own {w = w} y n a k m) h =
-    let (q', w', m', t) = part_before v x m h in (q', y ∷ w', own y n a k m', meets_letter_cons ways c q' x y w' w t)
-part_before {ways} {c} {q} [] x (theirs {w = w} y a m) (s, e) =
-    let same : y ≡ x = cc in
-    (q, [], done, inr (rw same at a, (w, cc)))
-part_before {ways} {c} {q} (z ∷ v) x (theirs {w = w} y a m) (s, e) =
-    let (q', w', m', t) = part_before v x m (s, cc) in
-    let same : y ≡ z = cc in
-    (q', y ∷ w', subst (λ k. Part ways c q (k ∷ v) (y ∷ w') q') same (theirs y a m'), meets_letter_cons ways c q' x y w' w t)
-part_before {ways} {c} {q} [] x (shared {q' = q₁} {w = w} y a k m) (s, e) =
-    let same : y ≡ x = cc in
-    (q, [], done, inl (rw same at a, (q₁, rw same at k), (w, refl)))
-part_before {ways} {c} {q} (z ∷ v) x (shared y a k m) (s, e) =
-    let (q', w', m', t) = part_before v x m (s, cc) in
-    let same : y ≡ z = cc in
-    (q', w', subst (λ j. Part ways c q (j ∷ v) w' q') same (shared y a k m'), t)
+part_before {ways} {c} {w = w} v x m (s, e) =
+    let (q₁, w₁, w₂, h, t, j) = part_split v (x ∷ s) m (rw append_assoc at e) in
+    let (q₂, w₃, k, meets) = part_letter t in
+    (q₂, w₁ ++ w₃, rw append-nil at (part-append h k), meets_letter_behind ways c q₂ x w₁ w₃ w₂ w j meets)
 
 -- ---- put together
 

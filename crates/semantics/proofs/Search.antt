@@ -1,8 +1,8 @@
 -- Tests, and bounded search: steps that are looked for among all states.
 use Rattle.std.proofs.Common.{◌≡◌, ℕ, ◌<◌, Bool, true, false, refl, arith}
+use Rattle.std.specs.Bool.{Decides}
 use Rattle.std.proofs.lemmas.Bool.{false_from_ne_true}
 use Rattle.std.proofs.lemmas.Bool.Decides.{Decides-below_or}
-use Rattle.std.specs.Bool.{Decides}
 use Rattle.semantics.specs.System.{System, WellFormed, any, has_step, accepts}
 
 pub false_if : {b : Bool} → (b ≡ true → ⊥) → b ≡ false

@@ -12,9 +12,6 @@ input≢absent e = cc
 pub output≢absent : Output ≢ Absent
 output≢absent e = cc
 
-pub input≢output : Input ≢ Output
-input≢output e = cc
-
 pub input_present : {w : Way} → w ≡ Input → w ≢ Absent
 input_present h z = cc
 

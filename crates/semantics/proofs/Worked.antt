@@ -2,7 +2,7 @@
 use Rattle.std.proofs.Common.{◌≡◌, ℕ, ◌<◌, ◌≤◌, max, Bool, true, false, ◌&&◌, ◌||◌, eqb, ltb, ◌≢◌, ◌⊎◌, List, [], ◌∷◌, sym, refl, ◌∙◌, inl, inr, arith}
 use mathlib.Core.Bool.{false≢true}
 use Rattle.std.proofs.lemmas.Bool.Decides.{nat_tests}
-use Rattle.std.proofs.lemmas.Bool.{both_ways}
+use Rattle.std.proofs.lemmas.Bool.{false_from_ne_true, both_ways}
 use Rattle.semantics.specs.declared.way.Way.{Way}
 use Rattle.semantics.specs.declared.way.Way.TheVariants.{Absent, Input}
 use Rattle.semantics.specs.Way.{is_input, is_output}
@@ -12,7 +12,7 @@ use Rattle.semantics.specs.Replacement.{MayReplace}
 use Rattle.semantics.specs.Coupling.{couple, step_at, missed_at, error_at}
 use Rattle.semantics.specs.Deciding.{only, meets, grown, grown_by, closure, moved, reach, next, walk, after, local, illegal, fails, misses, is_word, is_trace, errs, is_error_trace}
 use Rattle.semantics.specs.Examples.{step_in, state_in, one_of_each, small, doomed, replying, silent, LateInputIsMissed, OutputIntoErrorCountsBeforeIt, SilentMayReplaceReplying, ReplyingMayNotReplaceSilent, RelayMissesASecondReply}
-use Rattle.semantics.proofs.Search.{false_if, accepts_view, accepts_make}
+use Rattle.semantics.proofs.Search.{accepts_view, accepts_make}
 use Rattle.semantics.proofs.Ways.{input≢absent, present_view}
 use Rattle.semantics.proofs.Words.{word_like, outputs_like}
 use Rattle.semantics.proofs.Errors.{Cause, cause, error_trace}
@@ -103,7 +103,7 @@ module _ (a b : System) (wfa : WellFormed a) (start : a.start ≡ b.start) (ways
 
   missed_like : (p x : ℕ) → b.way x ≡ Input → accepts a p x ≡ false → accepts b p x ≡ false
   missed_like p x is n =
-      false_if (λ t. let (q, s) = accepts_view b p x t in both_ways _ n (accepts_make wfa (inputs p x q is s)))
+      false_from_ne_true _ (λ t. let (q, s) = accepts_view b p x t in both_ways _ n (accepts_make wfa (inputs p x q is s)))
 
   cause_like : (w : List ℕ) → Cause a w → Cause b w
   cause_like w (inl (u, p, pre, t, (o, q, s, outs, bad))) =
