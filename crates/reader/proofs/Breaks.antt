@@ -12,7 +12,6 @@ use Rattle.reader.specs.Row.{blank}
 use Rattle.reader.specs.Draft.{headed, acted, stepped, failed, ended, staged, entered, closed, follow}
 use Rattle.reader.specs.Table.{opened}
 use Rattle.reader.specs.Layout.{Begins, Stray, Stands, Breaks, closing}
-use Rattle.reader.proofs.Outcomes.{err_ok}
 use Rattle.reader.proofs.Follows.{follow_refused, follow_more, follow_done}
 use Rattle.reader.proofs.Parts.{follow_closing, follow_table}
 use Rattle.reader.proofs.Layouts.{follow_lays, lays_follow}
@@ -131,7 +130,8 @@ reach_stray : {front : List (ℕ × List ℕ)} {r : Row} {stage : Stage} (kind :
 reach_stray {front} {r} {stage} kind body f reach going e b =
     let opens = lays_follow (followed (front ++ (kind, body) ∷ []) b.0) b.1 b.2 in
     let here_again = ap (follow (blank 1 0) Head 0) (followed_push front (kind, body) b.0) ∙ reach_follow reach (next kind body b.0) ∙ follow_refused r stage (0 + sizes front) kind body b.0 f going e in
-    err_ok (sym here_again ∙ opens)
+    let apart = sym here_again ∙ opens in
+    cc
 
 stray_stands : (f : faults.Fault) (front : List (ℕ × List ℕ)) (rest : Records) → inner f ≡ true → Stray front rest → Stands f front rest
 stray_stands f front rest i s = grind arith

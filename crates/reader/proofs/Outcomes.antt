@@ -2,12 +2,6 @@
 use Rattle.std.proofs.Common.{◌≡◌, Bool, true, false, cond, Ok, Err, Result, refl}
 
 module _ {T E : Type 0} where
-  pub err_ok : {e : E} {x : T} → ◌≡◌ {A = Result T E} (Err e) (Ok x) → ⊥
-  err_ok p = cc
-
-  pub ok_same : {x y : T} → ◌≡◌ {A = Result T E} (Ok x) (Ok y) → x ≡ y
-  ok_same p = cc
-
   -- a test that had to pass
   pub cond_ok : (b : Bool) (o : Result T E) (e : E) {x : T} → cond b o (Err e) ≡ Ok x → (b ≡ true) × (o ≡ Ok x)
   cond_ok true o e p = (refl, p)

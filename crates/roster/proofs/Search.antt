@@ -6,7 +6,7 @@ use Rattle.std.specs.Iterator.{YieldsThen}
 use Rattle.std.specs.List.{list_any, range_with_len, FoldsTo}
 use Rattle.std.specs.declared.ops.Range.{Range}
 use Rattle.std.proofs.iter.Yields.{nat_range_steps}
-use Rattle.std.proofs.lemmas.Bool.{or_parts, cases_eq, cond-true, cond-false, false≢true}
+use Rattle.std.proofs.lemmas.Bool.{false_from_ne_true, or_parts, cases_eq, cond-true, cond-false, false≢true}
 use Rattle.std.proofs.lemmas.List.FromFn.{length-range_with_len, get_or-range_with_len}
 use Rattle.std.proofs.lemmas.List.Recursion.{or_is}
 use Rattle.std.proofs.lemmas.Iterator.{YieldsList-from_range, first_from_Range}
@@ -14,7 +14,7 @@ use Rattle.std.proofs.lemmas.Iterator.Search.{any_from_yields_List}
 use denote.Param.Members.{Mut}
 use denote.Ref.{Bor}
 use Rattle.semantics.specs.System.{System, any, has_step, accepts}
-use Rattle.semantics.proofs.Search.{false_if, same_test, any_view, any_make}
+use Rattle.semantics.proofs.Search.{same_test, any_view, any_make}
 use Rattle.roster.specs.Layer.{lowest}
 
 -- ---- any
@@ -35,7 +35,7 @@ any_listed f n =
     or_is (list_any f) f refl (λ x xs. refl) (range_with_len 0 n) 0 (any f n)
     (λ t. let (q, h, k) = any_view f n t in (q, omega (arith, length-range_with_len 0 n), ap f (place q h) ∙ k))
     (λ none i h. let low : i < n = omega (arith, length-range_with_len 0 n) in
-    false_if (λ t. false≢true (sym none ∙ any_make f n i low (sym (ap f (place i low)) ∙ t))))
+    false_from_ne_true _ (λ t. false≢true (sym none ∙ any_make f n i low (sym (ap f (place i low)) ∙ t))))
   where
     place : (i : ℕ) → i < n → get_or (range_with_len 0 n) i 0 ≡ i
     place i h = omega (arith, get_or-range_with_len 0 n i 0 h)
@@ -66,7 +66,7 @@ lowest_here f (suc n) i h was t =
     ]
 
 none_below : (f : ℕ → Bool) (n : ℕ) → ((k : ℕ) → 0 ≤ k → k < n → f k ≡ false) → any f n ≡ false
-none_below f n h = false_if (λ t. let (k, low, s) = any_view f n t in false≢true (sym (h k (omega arith) low) ∙ s))
+none_below f n h = false_from_ne_true _ (λ t. let (k, low, s) = any_view f n t in false≢true (sym (h k (omega arith) low) ∙ s))
 
 lowest_first : (f : ℕ → Bool) (n : ℕ) (r : Option ℕ)
     → MatchOption r ((k : ℕ) → 0 ≤ k → k < n → f k ≡ false) (λ i. (0 ≤ i) × (i < n) × (f i ≡ true) × ((k : ℕ) → 0 ≤ k → k < i → f k ≡ false)) → r ≡ lowest f n

@@ -6,12 +6,12 @@ use Rattle.std.proofs.lemmas.Option.{none-some}
 use Rattle.std.proofs.lemmas.List.{get_or_past, get_or-take, get_or-drop, length-take}
 use Rattle.std.proofs.lemmas.List.Folds.{list_any_at}
 use Rattle.std.proofs.lemmas.List.Recursion.{or_is, or_from_places}
-use Rattle.std.proofs.lemmas.Bool.{and_parts, and_from, or_cases, not-true, not_from_false, both_ways, cases_Bool, cases_lt, leb-true, ltb-true, eqb-true, cond-true, cond-false}
+use Rattle.std.proofs.lemmas.Bool.{false_from_ne_true, and_parts, and_from, or_cases, not-true, not_from_false, both_ways, cases_Bool, cases_lt, leb-true, ltb-true, eqb-true, cond-true, cond-false}
 use Rattle.std.proofs.lemmas.Bool.Decides.{nat_tests}
 use Rattle.semantics.specs.declared.way.Way.{Way}
 use Rattle.semantics.specs.declared.way.Way.TheVariants.{Absent, Input, Output}
 use Rattle.semantics.specs.System.{System, WellFormed, any}
-use Rattle.semantics.proofs.Search.{false_if, any_view, any_make}
+use Rattle.semantics.proofs.Search.{any_view, any_make}
 use Rattle.semantics.proofs.Ways.{input≢absent, output≢absent}
 use Rattle.reader.specs.declared.row.Row.{Row}
 use Rattle.reader.specs.declared.row.Step.{Step}
@@ -31,10 +31,10 @@ stray_steps r room =
     (λ t. let (k, h, s) = any_view (stray_step r) r.count t in (k, omega (arith, length-take r.count r.steps), ap (λ u. not (fitting r u)) (get_or-take r.count r.steps k unused h) ∙ s))
     (λ none k h.
     let low : k < r.count = omega (arith, length-take r.count r.steps) in
-    false_if (λ t. both_ways (any (stray_step r) r.count) none (any_make (stray_step r) r.count k low (sym (ap (λ u. not (fitting r u)) (get_or-take r.count r.steps k unused low)) ∙ t)))))
+    false_from_ne_true _ (λ t. both_ways (any (stray_step r) r.count) none (any_make (stray_step r) r.count k low (sym (ap (λ u. not (fitting r u)) (get_or-take r.count r.steps k unused low)) ∙ t)))))
 
 no_stray_step : (r : Row) → StepsFit r → any (stray_step r) r.count ≡ false
-no_stray_step r fits = false_if (λ t. let (k, h, s) = any_view (stray_step r) r.count t in both_ways (fitting r (get_or r.steps k unused)) (not-true _ s) (fits k h))
+no_stray_step r fits = false_from_ne_true _ (λ t. let (k, h, s) = any_view (stray_step r) r.count t in both_ways (fitting r (get_or r.steps k unused)) (not-true _ s) (fits k h))
 
 errors_fit : (r : Row) → stray_error r ≡ false → ErrorsFit r
 errors_fit r none s t =
@@ -51,7 +51,7 @@ errors_fit r none s t =
 no_stray_error : (r : Row) → ErrorsFit r → stray_error r ≡ false
 no_stray_error r fails =
     or_from_places (list_any (λ b. b)) (λ b. b) refl (λ x xs. refl) (drop r.states r.errors) false
-    (λ i h. rw get_or-drop (false_if (λ t. let low = fails (r.states + i) t in omega arith)))
+    (λ i h. rw get_or-drop (false_from_ne_true _ (λ t. let low = fails (r.states + i) t in omega arith)))
 
 limited_is : (r : Row) → (limited r ≡ true) ↔ ((1 ≤ r.states) × (r.states ≤ 64) × (r.start < r.states) × (r.count ≤ 256))
 limited_is r = grind (arith, nat_tests)

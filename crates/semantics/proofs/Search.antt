@@ -1,12 +1,8 @@
 -- Tests, and bounded search: steps that are looked for among all states.
-use Rattle.std.proofs.Common.{◌≡◌, ℕ, ◌<◌, Bool, true, false, refl, arith}
+use Rattle.std.proofs.Common.{◌≡◌, ℕ, ◌<◌, Bool, true, refl, arith}
 use Rattle.std.specs.Bool.{Decides}
-use Rattle.std.proofs.lemmas.Bool.{false_from_ne_true}
 use Rattle.std.proofs.lemmas.Bool.Decides.{Decides-below_or}
 use Rattle.semantics.specs.System.{System, WellFormed, any, has_step, accepts}
-
-pub false_if : {b : Bool} → (b ≡ true → ⊥) → b ≡ false
-false_if {b} h = false_from_ne_true b h
 
 pub same_test : (s t : Bool) → (s ≡ true → t ≡ true) → (t ≡ true → s ≡ true) → s ≡ t
 same_test s t f g = grind arith

@@ -1,7 +1,6 @@
 use Rattle.std.proofs.Common.{sym, refl, ap, ◌∙◌}
 use Rattle.std.proofs.lemmas.Result.{err_from_is_err_and}
 use Rattle.reader.specs.Table.{kept}
-use Rattle.reader.proofs.Outcomes.{err_ok, ok_same}
 use Rattle.reader.proofs.Follows.{opened_keeps}
 use Rattle.reader.proofs.Layouts.{opened_laid, laid_opened}
 use Rattle.reader.proofs.Breaks.{opened_breaks}
@@ -20,7 +19,7 @@ returns-in_err-row c =
     record {
       outcome = sym (ap (λ o. kept o c.args.self.now.row) was);
       told = opened_breaks c.args.bytes.now _ was;
-      opens = λ row laid. absurd (err_ok (sym was ∙ laid_opened c.args.bytes.now row laid));
+      opens = λ row laid. let apart = sym was ∙ laid_opened c.args.bytes.now row laid in cc;
     }
     )
 
@@ -30,5 +29,5 @@ returns c =
     record {
       outcome = sym (ap (λ o. kept o c.args.self.now.row) was);
       told = opened_laid c.args.bytes.now c.in_ok-row.row was;
-      opens = λ row laid. (refl, ok_same (sym was ∙ laid_opened c.args.bytes.now row laid));
+      opens = λ row laid. let same = sym was ∙ laid_opened c.args.bytes.now row laid in (refl, cc);
     }
