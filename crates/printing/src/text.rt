@@ -14,7 +14,7 @@ pub fn row_text(heap: Global, row: &Row) -> Result<String, AllocError>
     RowLines(row).to_string(heap)
 }
 
-// The line of a refusal.
+// The line of a refusal. It takes a number and a place, which its callers have from faults of any kind.
 pub fn refused_text(heap: Global, number: u8, place: u32) -> Result<String, AllocError>
     ensures { IfOk result (λ s. string_bytes s ≡ refused_text number place) }
 {

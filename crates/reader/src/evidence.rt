@@ -25,7 +25,8 @@ impl From<Fault> for EvidenceFault {
 }
 
 impl EvidenceFault {
-    // The fault's number.
+    // The fault's number. This and the place are no trait that both kinds of fault have, since nothing is written over
+    // both.
     pub fn number(&self) -> u8
         ensures { result ≡ number_of self.now }
     {

@@ -22,7 +22,7 @@ pub enum Fault {
 }
 
 impl Fault {
-    // The fault's number.
+    // The fault's number. It is told by a match, since variants that carry a place cannot be cast to a number.
     pub fn number(&self) -> u8
         ensures { result ≡ number_of self.now }
     {

@@ -13,7 +13,8 @@ const STATION: [u8; 36] = *b"\
 \x03\x00\x03\x00\x01\x02\x00\
 \x00\x00\x05\x00";
 
-// What the records of the station say, in their order.
+// What the records of the station say, in their order. The texts stand beside the bytes and not with them, for the demo
+// cuts the records out of the bytes, as a reader does.
 const SAYS: [&str; 6] = [
     "head: two states, and 0 is the start",
     "action: 1 is an input",

@@ -27,7 +27,7 @@ fn answer(rt: &HostRuntime) -> io::Result<()> {
     }
 }
 
-// Runs a command on the words behind it.
+// Runs a command on the words behind it. A match and no table of functions, since commands take different things.
 fn run(rt: &HostRuntime, command: &str, words: Args) -> io::Result<()> {
     match command {
         "table" => tables::tables(rt, words),
