@@ -26,7 +26,7 @@ impl<P: Parts> fmt::Display for Each<P> {
     #[tactic(auto, unfolding(crate::specs::Text::each))]
     fn fmt<W: fmt::Write>(&self, f: &mut fmt::Formatter<W>) -> fmt::Result {
         for number in 0..self.0 {
-            write!(f, "{}", self.1.part(number))?;
+            self.1.part(number).fmt(f)?;
         }
         Ok(())
     }
