@@ -4,7 +4,7 @@ use Rattle.std.specs.List.{count_by}
 use Rattle.std.proofs.lemmas.Bool.{both_ways}
 use Rattle.std.proofs.lemmas.Bool.Decides.{nat_tests}
 use Rattle.std.proofs.lemmas.Grind.{common_steps, get_or-set_at}
-use Rattle.std.proofs.lemmas.List.Sums.{sum_by-set, count_by-le-length}
+use Rattle.std.proofs.lemmas.List.Sums.{sum_by-set}
 use Rattle.semantics.specs.declared.way.Way.{Way}
 use Rattle.semantics.specs.declared.way.Way.TheVariants.{Absent}
 use Rattle.reader.specs.declared.row.Row.{Row}
@@ -69,12 +69,6 @@ sized r Actions = taking r
 sized r Steps = taking r
 sized r Errors = taking r
 sized r Closed = taking r + 4
-
-pub sized_bound : (r : Row) (stage : Stage) → Keeps r → sized r stage ≤ 2314
-sized_bound r stage k =
-    let ways = count_by-le-length declared r.ways in
-    let errors = count_by-le-length (λ b. b) r.errors in
-    grind arith
 
 -- past the head, and before the end
 sized_between : (r : Row) (stage : Stage) (k : ℕ) → 2 ≤ k → due stage k ≡ true → sized r stage ≡ taking r

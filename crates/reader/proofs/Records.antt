@@ -1,5 +1,5 @@
 -- The laws of cutting bytes into records.
-use Rattle.std.proofs.Common.{◌≡◌, ℕ, zero, suc, ◌+◌, ◌-◌, ◌*◌, ◌<◌, ◌≤◌, List, [], ◌∷◌, ◌++◌, length, get_or, take, drop, Some, None, Option, refl, ap, ◌∙◌, arith, length-append, length-drop, length-take, take_all}
+use Rattle.std.proofs.Common.{◌≡◌, ℕ, zero, suc, ◌+◌, ◌*◌, ◌<◌, ◌≤◌, List, [], ◌∷◌, ◌++◌, length, Some, None, Option, refl, ap, ◌∙◌, arith, length-append, length-drop, length-take}
 use Rattle.std.proofs.lemmas.List.{take_at, drop_at}
 use Rattle.std.proofs.lemmas.Bool.Decides.{nat_tests}
 use Rattle.reader.specs.Record.{bodied, front, before, up_to, records, none, cut, next, written, ReadBack}
@@ -51,12 +51,6 @@ pub records-some : (bytes : List ℕ) → 0 < length bytes → records bytes ≡
 unfolding records up_to
 records-some [] some e = absurd (omega arith)
 records-some (b ∷ bytes) some e = grind arith
-
--- what the slice pattern and the cut behind it give
-pub front_is : (bytes : List ℕ) (kind n : ℕ) (body rest : List ℕ) → 4 ≤ length bytes → n ≡ get_or bytes 0 0 + get_or bytes 1 0 * 256 → kind ≡ get_or bytes 2 0 + get_or bytes 3 0 * 256
-    → n ≤ length (take (length bytes - 4) (drop 4 bytes)) → body ≡ take n (take (length bytes - 4) (drop 4 bytes)) → rest ≡ drop n (take (length bytes - 4) (drop 4 bytes)) → Some (kind, body, rest) ≡ front bytes
-front_is (a ∷ b ∷ c ∷ d ∷ bytes) kind n body rest h en ek l eb er = grind (arith, nat_tests, take_all {A = ℕ})
-front_is bytes kind n body rest h en ek l eb er = absurd (omega arith)
 
 -- a record that is written stands in front
 pub read_back : ReadBack

@@ -6,7 +6,7 @@ use Rattle.reader.specs.Draft.{entered, follow}
 use Rattle.reader.specs.Table.{opened}
 use Rattle.reader.proofs.Records.{records-none, records-next}
 use Rattle.reader.proofs.Entries.{entry}
-use Rattle.reader.proofs.Keeps.{Keeps, keeps_blank, entry_keeps, entry_sized, sized, sized_bound}
+use Rattle.reader.proofs.Keeps.{Keeps, keeps_blank, entry_keeps, entry_sized, sized}
 use Rattle.reader.proofs.Follows.{follow_stops, follow_refused, follow_more, follow_done, follow_trails}
 use Rattle.reader.proofs.table.read.Goals as goal
 
@@ -48,12 +48,6 @@ adds : (c : goal.In_ok-take) → (c.loop-unread.unread.at + size_of c.in_ok-plac
 adds c =
     let e = entry c.loop-unread.draft.row c.loop-unread.draft.stage c.loop-unread.unread.at c.in_ok-placed.placed.record.kind c.in_ok-placed.placed.record.body.now (c.take.new.self.row, c.take.new.self.stage) (taken_in c) in
     (ap (λ n. n + size_of c.in_ok-placed.placed.record.body.now) c.loop-unread.invariant.1 ∙ entry_sized e c.loop-unread.invariant.2, entry_keeps e c.loop-unread.invariant.2)
-
-pub read_record-requires : goal.read_record-requires
-read_record-requires c =
-    let few = sized_bound c.loop-unread.draft.row c.loop-unread.draft.stage c.loop-unread.invariant.2 in
-    let at = c.loop-unread.invariant.1 in
-    omega arith
 
 pub loop-unread-preserved : goal.loop-unread-preserved
 loop-unread-preserved c =
