@@ -55,7 +55,7 @@ impl Draft {
         ensures { reached result self.new.row self.new.stage ≡ staged AtActions (headed placed.now.at placed.now.«record».body.now) }
     {
         let [states, start] = placed.fields::<2>()?;
-        if states == 0 || states > 64 || start >= states {
+        if !(1..=64).contains(&states) || start >= states {
             return Err(Fault::Value(placed.at));
         }
         *self = Draft {
@@ -72,7 +72,7 @@ impl Draft {
         let Ok(way) = Way::try_from(way) else {
             return Err(Fault::Value(placed.at));
         };
-        if way == Way::Absent || action == 0 || action > 32 {
+        if way == Way::Absent || !(1..=32).contains(&action) {
             return Err(Fault::Value(placed.at));
         }
         if self.row.way(action) != Way::Absent {

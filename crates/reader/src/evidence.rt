@@ -25,8 +25,7 @@ impl From<Fault> for EvidenceFault {
 }
 
 impl EvidenceFault {
-    // The fault's number. This and the place are no trait that both kinds of fault have, since nothing is written over
-    // both.
+    // The fault's number. What is written over faults of both kinds takes this one, to which the other is converted.
     pub fn number(&self) -> u8
         ensures { result ≡ number_of self.now }
     {

@@ -4,14 +4,14 @@ ghost use Rattle.reader.specs.Kind.{Decodes};
 // What a record tells: a part of a table, a pair of a certificate, or a run.
 #[derive(Clone, Copy, PartialEq, Eq, Debug)]
 pub enum Kind {
-    Head = 1,
-    Action = 2,
-    Step = 3,
-    Error = 4,
-    End = 5,
-    NarrowPair = 16,
-    WidePair = 17,
-    Run = 18,
+    Head,
+    Action,
+    Step,
+    Error,
+    End,
+    NarrowPair,
+    WidePair,
+    Run,
 }
 
 // A number that is the number of no kind.

@@ -1,10 +1,11 @@
 // A list of at most 4,096 things that needs no heap.
-ghost use Rattle.std.specs.Prelude.{◌≡◌, ◌≤◌, [], ◌∷◌, ◌++◌, length, take, nat_lt, is_ok, OnOk, OnErr, List};
+ghost use Rattle.std.specs.Prelude.{◌≡◌, ◌≤◌, [], ◌∷◌, ◌++◌, length, take, nat_lt, not, is_ok, OnOk, OnErr, List};
 
 use std::marker::Model;
 
 // The first `count` places hold what was listed, in its order. A contract sees the things that are listed. The places
-// are an array, since reading takes no memory from the heap, and so never fails for want of it.
+// are an array, since reading takes no memory from the heap, and so never fails for want of it; and no crate is taken in
+// for them, since its statements would be trusted anew.
 #[derive(Drop)]
 pub struct Listing<T> {
     places: [T; 4096],
@@ -36,7 +37,8 @@ impl<T: Copy> Listing<T> {
 
     // What is listed, in its order.
     pub fn as_slice(&self) -> &[T]
-        ensures { result.now ≡ self.now }
+        ensures items { result.now ≡ self.now }
+        ensures few { length self.now ≤ 4096 }
     {
         let all = &self.places[..];
         &all[0..self.count]
@@ -44,9 +46,17 @@ impl<T: Copy> Listing<T> {
 
     // How many things are listed.
     pub fn len(&self) -> usize
-        ensures { result ≡ length self.now }
+        ensures count { result ≡ length self.now }
+        ensures few { length self.now ≤ 4096 }
     {
         self.as_slice().len()
+    }
+
+    // Whether 4,096 things are listed.
+    pub fn is_full(&self) -> bool
+        ensures { result ≡ not (nat_lt (length self.now) 4096) }
+    {
+        self.len() >= 4096
     }
 
     // Lists one thing more; where 4,096 are listed it is refused, and nothing changes.
@@ -55,7 +65,7 @@ impl<T: Copy> Listing<T> {
         ensures listed { OnOk result (self.new ≡ self.old ++ item ∷ []) }
         ensures full { OnErr result (self.new ≡ self.old) }
     {
-        if self.count >= 4096 {
+        if self.is_full() {
             return Err(Full);
         }
         self.places[self.count] = item;

@@ -28,7 +28,7 @@ pub fn read_pairs(bytes: &[u8]) -> Result<Listing<Pair>, EvidenceFault>
     let mut pairs = Listing::new(Pair { state: 0, set: 0 });
     let mut unread = Unread::of(bytes);
     while !unread.rest.is_empty() {
-        if pairs.len() >= 4096 {
+        if pairs.is_full() {
             return Err(EvidenceFault::Pairs);
         }
         let placed = unread.read_record()?;

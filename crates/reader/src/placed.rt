@@ -6,7 +6,8 @@ use crate::fault::Fault;
 use crate::kind::Kind;
 use crate::record::Record;
 
-// A record with the offset at which it stands, which is the place of each of its faults.
+// A record with the offset at which it stands, which is the place of each of its faults. Its questions say `else` where
+// they could say `map_err`, since the check finds their proofs alone so, and not with a closure.
 #[derive(Clone, Copy)]
 pub struct Placed<'a> {
     pub record: Record<'a>,

@@ -8,6 +8,7 @@ use crate::evidence::EvidenceFault;
 use crate::fault::Fault;
 use crate::kind::Kind;
 use crate::listing::Listing;
+use crate::placed::Placed;
 use crate::unread::Unread;
 
 // A move: an action, 0 for an internal one, and the state that it leads to.
@@ -47,15 +48,14 @@ pub fn read_run(bytes: &[u8]) -> Result<Run, EvidenceFault>
     let Kind::Run = placed.kind()? else {
         return Err(Fault::Kind(0).into());
     };
-    read_body(placed.record.body, unread.rest)
+    read_body(&placed, unread.rest)
 }
 
-// The run of a record's body, behind which some bytes follow.
-fn read_body(body: &[u8], behind: &[u8]) -> Result<Run, EvidenceFault>
-    requires { length body.now < 65536 }
-    ensures { outcome result ≡ embodied body.now behind.now }
+// The run of a record, behind which some bytes follow.
+fn read_body(placed: &Placed<'_>, behind: &[u8]) -> Result<Run, EvidenceFault>
+    ensures { outcome result ≡ embodied placed.now.«record».body.now behind.now }
 {
-    let [ending, input, moves @ ..] = body else {
+    let [ending, input, moves @ ..] = placed.record.body else {
         return Err(Fault::Length(0).into());
     };
     read_parts(*ending, *input, moves, behind)

@@ -31,9 +31,7 @@ impl<'a> Unread<'a> {
         ensures onward { IfOk result (λ p. self.new.at ≡ self.old.at + size_of p.«record».body.now) }
     {
         let at = self.at;
-        let Some((record, behind)) = split(self.rest) else {
-            return Err(Fault::Cut(at));
-        };
+        let (record, behind) = split(self.rest).ok_or(Fault::Cut(at))?;
         self.rest = behind;
         self.at = at + 4 + record.body.len() as u32;
         Ok(Placed { record, at })
