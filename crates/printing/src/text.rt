@@ -14,7 +14,7 @@ pub fn row_text(heap: Global, row: &Row) -> Result<String, AllocError>
     RowLines(row).to_string(heap)
 }
 
-// The line of a refusal. It takes a number and a place, which its callers have from faults of any kind.
+// The line of a refusal. Its number and its place stay apart, as its callers have always passed them.
 pub fn refused_text(heap: Global, number: u8, place: u32) -> Result<String, AllocError>
     ensures { IfOk result (λ s. string_bytes s ≡ refused_text number place) }
 {

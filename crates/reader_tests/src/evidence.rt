@@ -4,7 +4,7 @@ use std::alloc::{AllocError, Global};
 use std::test::Fail;
 
 // The number and the place of a refusal.
-fn told(fault: EvidenceFault) -> (u8, u32) {
+pub fn told(fault: EvidenceFault) -> (u8, u32) {
     (fault.number(), fault.place())
 }
 

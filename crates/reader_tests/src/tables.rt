@@ -1,4 +1,5 @@
 // Tables: what opens, and each refusal at its place.
+use crate::evidence::told;
 use reader::{Step, Table};
 use std::alloc::{AllocError, Global};
 use std::test::Fail;
@@ -14,7 +15,7 @@ const STARTS: [u32; 8] = [0, 6, 12, 18, 25, 32, 39, 44];
 fn verdict(bytes: &[u8]) -> Result<(), (u8, u32)> {
     Table::resting()
         .open(bytes)
-        .map_err(|fault| (fault.number(), fault.place()))
+        .map_err(|fault| told(fault.into()))
 }
 
 #[test]

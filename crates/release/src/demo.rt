@@ -1,6 +1,7 @@
 // One table from its bytes to its lines, and what becomes of damaged bytes.
+ghost use Rattle.std.specs.Prelude.{◌≤◌};
+
 use crate::tables::show;
-use reader::split;
 use std::alloc::{AllocError, Global};
 use std::io;
 
@@ -12,17 +13,6 @@ const STATION: [u8; 36] = *b"\
 \x03\x00\x03\x00\x00\x01\x01\
 \x03\x00\x03\x00\x01\x02\x00\
 \x00\x00\x05\x00";
-
-// What the records of the station say, in their order. The texts stand beside the bytes and not with them, for the demo
-// cuts the records out of the bytes, as a reader does.
-const SAYS: [&str; 6] = [
-    "head: two states, and 0 is the start",
-    "action: 1 is an input",
-    "action: 2 is an output",
-    "step: from 0 under action 1 to 1",
-    "step: from 1 under action 2 to 0",
-    "end: nothing follows",
-];
 
 const BYTES: &str = "\
 A table is a file that tells what one part of a line can do: its states, the
@@ -100,23 +90,20 @@ pub fn demo(rt: &HostRuntime) -> io::Result<()> {
     rt.print(CUT_MEANS)
 }
 
-// Shows the records of the station, one by one.
 fn tell_records(rt: &HostRuntime) -> io::Result<()> {
-    let mut rest = &STATION[..];
-    for says in SAYS {
-        let Some((_, behind)) = split(rest) else {
-            break;
-        };
-        let at = STATION.len() - rest.len();
-        tell(rt, at, &rest[..rest.len() - behind.len()], says)?;
-        rest = behind;
-    }
-    Ok(())
+    tell(rt, 0, 6, "head: two states, and 0 is the start")?;
+    tell(rt, 6, 12, "action: 1 is an input")?;
+    tell(rt, 12, 18, "action: 2 is an output")?;
+    tell(rt, 18, 25, "step: from 0 under action 1 to 1")?;
+    tell(rt, 25, 32, "step: from 1 under action 2 to 0")?;
+    tell(rt, 32, 36, "end: nothing follows")
 }
 
-// Shows a record, the offset at which it begins, and what it says.
-fn tell(rt: &HostRuntime, at: usize, record: &[u8], says: &str) -> io::Result<()> {
-    let bytes = hexadecimal(rt.alloc(), record)?;
+// Shows the record that stands from an offset to another, and what it says.
+fn tell(rt: &HostRuntime, at: usize, end: usize, says: &str) -> io::Result<()>
+    requires { (at ≤ end) × (end ≤ 36) }
+{
+    let bytes = hexadecimal(rt.alloc(), &STATION[at..end])?;
     println!(rt; "  at {at:>2}:  {bytes:<22} {says}")
 }
 

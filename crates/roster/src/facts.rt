@@ -31,7 +31,8 @@ fn has_stray_error(row: &Row) -> bool
         .any(|told| *told)
 }
 
-// Whether the row keeps all of that. With the three tests written out in `keeps_facts` its clause `says` got no proof.
+// Whether the row keeps its limits and has no stray step and no stray error. With the three tests written out in
+// `keeps_facts` the clause `says` there got no proof.
 #[tactic(auto, unfolding(crate::specs::Rows::keeps))]
 fn keeps_all(row: &Row) -> bool
     ensures { result ≡ keeps row.now }

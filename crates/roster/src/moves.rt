@@ -7,7 +7,7 @@ use crate::mask::{is_in, with};
 use reader::{Row, Step};
 
 // For each of the actions 0 to 32 and each of 64 states, the set of states to which a step leads. They stand in one
-// plain array of 33 x 64 places, since a roster uses no heap.
+// plain array of 33 x 64 places, which is the layout that the project asks of charts, with no heap.
 #[derive(Clone, Copy)]
 pub struct Moves {
     sets: [u64; 2112],
