@@ -1,5 +1,8 @@
 // The kinds of records.
-ghost use Rattle.reader.specs.Kind.{Decodes};
+ghost use Rattle.semantics.specs.Number.{Decodes};
+ghost use Rattle.reader.specs.Kind.{number as number_of};
+
+use semantics::Unknown;
 
 // What a record tells: a part of a table, a pair of a certificate, or a run.
 #[derive(Clone, Copy, PartialEq, Eq, Debug)]
@@ -14,16 +17,12 @@ pub enum Kind {
     Run,
 }
 
-// A number that is the number of no kind.
-#[derive(Clone, Copy, PartialEq, Eq, Debug)]
-pub struct UnknownKind(pub u16);
-
 impl TryFrom<u16> for Kind {
-    type Error = UnknownKind;
+    type Error = Unknown<u16>;
 
-    ghost try_from_gives = { Decodes };
+    ghost try_from_gives = { Decodes number_of };
 
-    fn try_from(number: u16) -> Result<Self, UnknownKind> {
+    fn try_from(number: u16) -> Result<Self, Unknown<u16>> {
         match number {
             1 => Ok(Kind::Head),
             2 => Ok(Kind::Action),
@@ -33,7 +32,7 @@ impl TryFrom<u16> for Kind {
             16 => Ok(Kind::NarrowPair),
             17 => Ok(Kind::WidePair),
             18 => Ok(Kind::Run),
-            _ => Err(UnknownKind(number)),
+            _ => Err(Unknown(number)),
         }
     }
 }

@@ -17,7 +17,7 @@ mod unread;
 
 pub use evidence::EvidenceFault;
 pub use fault::Fault;
-pub use kind::{Kind, UnknownKind};
+pub use kind::Kind;
 pub use listing::{Full, Listing};
 pub use pair::{Pair, read_pairs};
 pub use record::{Record, records_read_back, split};

@@ -6,3 +6,4 @@ pub mod Coupling
 pub mod Deciding
 pub mod Theorems
 pub mod Examples
+pub mod Number

@@ -8,6 +8,7 @@ mod deciding;
 mod examples;
 mod replacement;
 mod traces;
+mod unknown;
 mod way;
 
 pub use coupling::{coupling_goes_state_by_state, coupling_is_determined, coupling_is_well_formed};
@@ -22,4 +23,5 @@ pub use replacement::{
 pub use traces::{
     error_traces_by_illegal_states, error_traces_gain_letters, error_traces_lose_outputs,
 };
-pub use way::{UnknownWay, Way};
+pub use unknown::Unknown;
+pub use way::Way;
