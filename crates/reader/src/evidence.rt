@@ -25,7 +25,8 @@ impl From<Fault> for EvidenceFault {
 }
 
 impl EvidenceFault {
-    // The fault's number. What is written over faults of both kinds takes this one, to which the other is converted.
+    // The fault's number. There is no trait for both kinds of fault: where code is to take either, it takes this one,
+    // since a fault of a record is turned into it by `From`.
     pub fn number(&self) -> u8
         ensures { result ≡ number_of self.now }
     {

@@ -4,8 +4,8 @@ ghost use Rattle.std.specs.Prelude.{◌≡◌, ◌≤◌, [], ◌∷◌, ◌++�
 use std::marker::Model;
 
 // The first `count` places hold what was listed, in its order. A contract sees the things that are listed. The places
-// are an array, since reading takes no memory from the heap, and so never fails for want of it; and no crate is taken in
-// for them, since its statements would be trusted anew.
+// are an array, since reading takes no memory from the heap, and so never fails for want of it; and no crate is
+// taken in for them, since its statements would be trusted anew.
 #[derive(Drop)]
 pub struct Listing<T> {
     places: [T; 4096],
@@ -54,7 +54,8 @@ impl<T: Copy> Listing<T> {
 
     // Whether 4,096 things are listed.
     pub fn is_full(&self) -> bool
-        ensures { result ≡ not (nat_lt (length self.now) 4096) }
+        ensures full { result ≡ not (nat_lt (length self.now) 4096) }
+        ensures few { length self.now ≤ 4096 }
     {
         self.len() >= 4096
     }

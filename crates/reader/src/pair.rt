@@ -63,8 +63,8 @@ fn read_sized<const N: usize>(placed: &Placed<'_>) -> Result<Pair, Fault>
     })
 }
 
-// The number that some bytes spell, the lowest byte first. Copied into eight bytes for `from_le_bytes`, as was tried, it
-// left the check a goal.
+// The number that some bytes spell, the lowest byte first. Copying them into eight bytes for `from_le_bytes` was tried,
+// and left the check a goal.
 fn little(bytes: &[u8]) -> u64
     requires { length bytes.now ≤ 8 }
     ensures { result ≡ little_of bytes.now }

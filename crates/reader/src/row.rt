@@ -13,8 +13,9 @@ pub struct Step {
 }
 
 // A row: how many states there are, the start, the way of the actions 1 to 32, the first `count` places of
-// `steps`, and for each state whether it is an error. The arrays have fixed lengths, since reading takes no memory from
-// the heap, and the count stands beside them and is no listing's, since a row is what anybody writes down: it may be wrong.
+// `steps`, and for each state whether it is an error. The arrays have fixed lengths, since reading takes no memory
+// from the heap, and the count stands beside them and is no listing's, since a row is what anybody writes down: it
+// may be wrong.
 #[derive(Clone, Copy)]
 pub struct Row {
     pub states: u8,

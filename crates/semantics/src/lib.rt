@@ -1,6 +1,7 @@
 // The vocabulary that every promise speaks in: systems with inputs, outputs and errors, their traces, what may replace
-// what, and couplings. The definitions stand in specs/. Apart from the way of an action there is no code here: each
-// function below is a theorem, its contract the statement, and running it does nothing.
+// what, and couplings. The definitions stand in specs/. Apart from the way of an action, and the refusal of a number that
+// stands for nothing, there is no code here: each function below is a theorem, its contract the statement, and running it
+// does nothing.
 #![tactic(auto)]
 
 mod coupling;
