@@ -69,7 +69,7 @@ impl Draft {
         ensures { reached result self.new.row self.new.stage ≡ staged AtActions (acted self.old.row placed.now.at placed.now.«record».body.now) }
     {
         let [action, way] = placed.fields::<2>()?;
-        // `else` and not `map_err`, as in what is asked of a record where it stands.
+        // `else` and not `map_err`, for the reason that is told at `Placed`.
         let Ok(way) = Way::try_from(way) else {
             return Err(Fault::Value(placed.at));
         };

@@ -8,7 +8,7 @@ use crate::placed::Placed;
 use crate::record::split;
 
 // The bytes that are left to read, and the offset at which they begin.
-#[derive(Clone, Copy)]
+#[derive(Drop)]
 pub struct Unread<'a> {
     pub rest: &'a [u8],
     pub at: u32,
