@@ -1,10 +1,15 @@
 // Evidence: what is read, and each refusal at its place.
+ghost use Rattle.std.specs.Prelude.{◌≡◌};
+ghost use Rattle.reader.specs.EvidenceFault.{number, place};
+
 use reader::{Ending, EvidenceFault, Move, Pair, read_pairs, read_run};
 use std::alloc::{AllocError, Global};
 use std::test::Fail;
 
 // The number and the place of a refusal.
-pub fn told(fault: EvidenceFault) -> (u8, u32) {
+pub fn told(fault: EvidenceFault) -> (u8, u32)
+    ensures { result ≡ (number fault, place fault) }
+{
     (fault.number(), fault.place())
 }
 
