@@ -1,6 +1,7 @@
 // The lines of a row and of a refusal, as values that print themselves.
-ghost use Rattle.std.specs.Prelude.{Some};
-ghost use Rattle.reader.specs.Row.{way_of};
+ghost use Rattle.std.specs.Prelude.{◌≡◌, ◌==◌, ◌&&◌, Some};
+ghost use Rattle.std.specs.List.{list_any};
+ghost use Rattle.reader.specs.Row.{way_of, listed as listed_of};
 ghost use Rattle.printing.specs.Text.{way_line, step_of, steps_under, steps_from, error_of, row_text, refused_text};
 
 use crate::parts::{Each, Parts};
@@ -90,10 +91,26 @@ impl<'a> Parts for StepsFrom<'a> {
 
     ghost text = { λ s n. steps_under s.row.now s.from n };
 
+    // Where no step leaves the state under the action, no state is asked for: most tables tell few of the steps that they
+    // could.
     fn part(&self, action: u8) -> Each<StepsUnder<'a>> {
         let StepsFrom { row, from } = *self;
-        Each(row.states, StepsUnder { row, from, action })
+        let ends = if leaves(row, from, action) {
+            row.states
+        } else {
+            0
+        };
+        Each(ends, StepsUnder { row, from, action })
     }
+}
+
+// Whether the row tells a step from a state under an action.
+fn leaves(row: &Row, from: u8, action: u8) -> bool
+    ensures { result ≡ list_any (λ step. step.from == from && step.action == action) (listed_of row.now) }
+{
+    row.listed()
+        .iter()
+        .any(|step| step.from == from && step.action == action)
 }
 
 // The steps from a state under an action, by the state that they lead to.

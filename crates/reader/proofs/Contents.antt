@@ -1,5 +1,5 @@
 -- Things that may be added to a row in turn are those of a lawful content, and the row is its row.
-use Rattle.std.proofs.Common.{◌≡◌, ℕ, suc, ◌+◌, ◌-◌, ◌<◌, ◌≤◌, min, Bool, true, false, ◌&&◌, ◌||◌, leb, ◌≢◌, List, [], ◌∷◌, ◌++◌, length, get_or, take, set, replicate, sym, refl, ap, ◌∙◌, inl, inr, arith, length-append, length-set, get_or-set_other}
+use Rattle.std.proofs.Common.{◌≡◌, ℕ, suc, ◌+◌, ◌-◌, ◌<◌, ◌≤◌, min, Bool, true, false, cond, ◌==◌, ◌&&◌, ◌||◌, leb, ◌≢◌, List, [], ◌∷◌, ◌++◌, length, get_or, take, set, replicate, sym, refl, ap, ◌∙◌, inl, inr, arith, length-append, length-set, get_or-set_other}
 use Rattle.std.specs.List.{AllByRecursion}
 use Rattle.std.proofs.lemmas.List.{take_more_set, set_at, append_assoc, append-nil, length_push}
 use Rattle.std.proofs.lemmas.Bool.Decides.{nat_tests}
@@ -58,14 +58,27 @@ way_kept : (k : ℕ) (xs : List Action) (r : Row) → AllByRecursion Sized xs �
 way_kept k [] r ok apart = refl
 way_kept k (a ∷ xs) r ok apart = way_kept k xs (with_way r a.action a.way) ok.1 apart.1 ∙ way_other r a.action k a.way ok.0.0 (λ e. apart.0 (sym e))
 
--- a number with no way yet gets the way that the actions give it
-way_got : (k : ℕ) (xs : List Action) (r : Row) → length r.ways ≡ 32 → way_of r k ≡ Absent → AllByRecursion Sized xs → Once (λ a. a.action) xs → way_of (all_ways r xs) k ≡ way_in k xs
-way_got k [] r len absent ok once = absent
-way_got k (a ∷ xs) r len absent ok once =
+-- the way that the actions give a number, and else d
+abbrev way_or : Way → ℕ → List Action → Way
+way_or d n [] = d
+way_or d n (a ∷ xs) = cond (n == a.action) a.way (way_or d n xs)
+
+way_or-absent : (n : ℕ) (xs : List Action) → way_or Absent n xs ≡ way_in n xs
+way_or-absent n [] = refl
+way_or-absent n (a ∷ xs) = ap (cond (n == a.action) a.way) (way_or-absent n xs)
+
+way_or-not : (d : Way) (n : ℕ) (xs : List Action) → AllByRecursion (λ b. b.action ≢ n) xs → way_or d n xs ≡ d
+way_or-not d n [] apart = refl
+way_or-not d n (a ∷ xs) apart = rw (ne_eqb n a.action (λ e. apart.0 (sym e))) (way_or-not d n xs apart.1)
+
+-- any number gets the way that the actions give it, and else keeps its own
+way_of-all_ways : (n : ℕ) (xs : List Action) (r : Row) → length r.ways ≡ 32 → AllByRecursion Sized xs → Once (λ a. a.action) xs → way_of (all_ways r xs) n ≡ way_or (way_of r n) n xs
+way_of-all_ways n [] r len ok once = refl
+way_of-all_ways n (a ∷ xs) r len ok once =
     let r' = with_way r a.action a.way in
-    elim (cases_eq k a.action) [
-      | inl e ↦ rw (eq-eqb k a.action e) (rw e (way_kept a.action xs r' ok.1 once.0 ∙ way_new r a.action a.way len ok.0.0 ok.0.1))
-      | inr ne ↦ rw (ne_eqb k a.action ne) (way_got k xs r' (length-set r.ways (a.action - 1) a.way ∙ len) (way_other r a.action k a.way ok.0.0 ne ∙ absent) ok.1 once.1)
+    elim (cases_eq n a.action) [
+      | inl e ↦ rw (eq-eqb n a.action e) (rw e (way_kept a.action xs r' ok.1 once.0 ∙ way_new r a.action a.way len ok.0.0 ok.0.1))
+      | inr ne ↦ rw (ne_eqb n a.action ne) (way_of-all_ways n xs r' (length-set r.ways (a.action - 1) a.way ∙ len) ok.1 once.1 ∙ ap (λ d. way_or d n xs) (way_other r a.action n a.way ok.0.0 ne))
     ]
 
 -- the ways of no action at all
@@ -73,7 +86,7 @@ way-blank : (n s k : ℕ) → way_of (blank n s) k ≡ Absent
 way-blank n s k = cond_both (leb 1 k && leb k 32) _ Absent (λ w. w ≡ Absent) (λ e. get_or_alike 32 (k - 1) Absent) (λ e. refl)
 
 pub ways_in : (n s k : ℕ) (xs : List Action) → AllByRecursion Sized xs → Once (λ a. a.action) xs → way_of (all_ways (blank n s) xs) k ≡ way_in k xs
-ways_in n s k xs ok once = way_got k xs (blank n s) refl (way-blank n s k) ok once
+ways_in n s k xs ok once = way_of-all_ways k xs (blank n s) refl ok once ∙ ap (λ d. way_or d k xs) (way-blank n s k) ∙ way_or-absent k xs
 
 pub fresh-blank : (n s : ℕ) (xs : List Action) → AllByRecursion (Fresh (blank n s)) xs
 fresh-blank n s xs = recursion_from_All (Fresh (blank n s)) xs (λ k d h. ap declared (way-blank n s (get_or xs k d).action))

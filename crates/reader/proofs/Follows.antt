@@ -58,7 +58,7 @@ first r stage at kind body rest r' p =
     (t, entry r stage at kind body t e, further)
 
 -- what is laid out keeps the facts of a table
-follow_keeps : (rs : Records) (r : Row) (stage : Stage) (at : ℕ) (r' : Row) → follow r stage at rs ≡ Ok r' → Keeps r → Keeps r'
+pub follow_keeps : (rs : Records) (r : Row) (stage : Stage) (at : ℕ) (r' : Row) → follow r stage at rs ≡ Ok r' → Keeps r → Keeps r'
 unfolding follow
 follow_keeps none r stage at r' p k = let same : r ≡ r' = grind arith in subst Keeps same k
 follow_keeps cut r stage at r' p k = absurd (grind arith)

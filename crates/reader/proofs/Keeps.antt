@@ -4,7 +4,7 @@ use Rattle.std.specs.List.{count_by}
 use Rattle.std.proofs.lemmas.Bool.{both_ways}
 use Rattle.std.proofs.lemmas.Bool.Decides.{nat_tests}
 use Rattle.std.proofs.lemmas.Grind.{common_steps, get_or-set_at}
-use Rattle.std.proofs.lemmas.List.Sums.{sum_by-set}
+use Rattle.std.proofs.lemmas.List.Sums.{sum_by-set, count_by-le-length}
 use Rattle.semantics.specs.declared.way.Way.{Way}
 use Rattle.semantics.specs.declared.way.Way.TheVariants.{Absent}
 use Rattle.reader.specs.declared.row.Row.{Row}
@@ -84,3 +84,14 @@ entry_sized {r} {stage} (is_error s d k b h new e g) keeps =
     let more = count_set (λ b. b) r.errors s true false (omega arith) new refl in
     rw (sized_between r stage 4 (omega arith) d, b, e, g) (omega arith)
 entry_sized {r} {stage} (is_end d k b e g) keeps = rw (sized_between r stage 5 (omega arith) d, b, e, g)
+
+taking_bound : (r : Row) → Keeps r → taking r ≤ 2310
+taking_bound r k = omega (arith, count_by-le-length declared r.ways, count_by-le-length (λ b. b) r.errors)
+
+-- the records of a table take at most 2,314 bytes
+pub sized_bound : (r : Row) (stage : Stage) → Keeps r → sized r stage ≤ 2314
+sized_bound r Head k = omega arith
+sized_bound r Actions k = omega (arith, taking_bound r k)
+sized_bound r Steps k = omega (arith, taking_bound r k)
+sized_bound r Errors k = omega (arith, taking_bound r k)
+sized_bound r Closed k = omega (arith, taking_bound r k)

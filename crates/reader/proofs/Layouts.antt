@@ -45,6 +45,18 @@ is_tabled (suc n) f (x ∷ xs) d l h =
     λ i. h 0 (omega arith) i ∷ rest i
 is_tabled n f xs d l h = absurd (omega arith)
 
+-- and what it has
+length-tabled : {X : Type 0} (n : ℕ) (f : ℕ → X) → length (tabled n f) ≡ n
+unfolding tabled
+length-tabled zero f = refl
+length-tabled (suc n) f = ap suc (length-tabled n (λ i. f (suc i)))
+
+get_or-tabled : {X : Type 0} (n i : ℕ) (f : ℕ → X) (d : X) → i < n → get_or (tabled n f) i d ≡ f i
+unfolding tabled
+get_or-tabled zero i f d h = absurd (omega arith)
+get_or-tabled (suc n) zero f d h = refl
+get_or-tabled (suc n) (suc i) f d h = get_or-tabled n i (λ j. f (suc j)) d (omega arith)
+
 abbrev content : ℕ → ℕ → List Action → List Step → List ℕ → Content
 content n s xs ss es = record { states = n; start = s; actions = xs; steps = ss; errors = es }
 

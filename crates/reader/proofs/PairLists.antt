@@ -6,10 +6,11 @@ use Rattle.std.proofs.lemmas.Bool.Decides.{nat_tests}
 use Rattle.reader.specs.declared.fault.Fault as faults
 use Rattle.reader.specs.declared.evidence.EvidenceFault as evidence
 use Rattle.reader.specs.declared.evidence.EvidenceFault.TheVariants.{Record, Pairs, Moves}
+use Rattle.reader.specs.declared.listing.Listing.{Listing}
 use Rattle.reader.specs.declared.pair.Pair.{Pair}
 use Rattle.reader.specs.Fault.{place}
 use Rattle.reader.specs.Record.{Records, none, cut, next, records, size_of, followed, sizes}
-use Rattle.reader.specs.Pairs.{pair_of, joined, gather, pairs_in}
+use Rattle.reader.specs.Pairs.{pair_of, joined, gather, pairs_in, outcome}
 use Rattle.reader.specs.Evidence.{Tells, AllTell, PairsLaid, TellsNone, PairsStand, PairsBreak}
 
 -- what a record says that is read as a pair, and one that is not
@@ -90,6 +91,6 @@ pairs_break bytes f e =
     (xs, ps, rest, is, told, stands_behind f xs rest stands)
 
 -- what an answer says of the bytes
-pub pairs_told : (bytes : List ℕ) (r : Result (List Pair) evidence.EvidenceFault) → r ≡ pairs_in bytes → MatchResult r (PairsLaid bytes) (PairsBreak bytes)
-pairs_told bytes (Ok ps) e = pairs_laid bytes ps (sym e)
+pub pairs_told : (bytes : List ℕ) (r : Result (Listing Pair) evidence.EvidenceFault) → outcome r ≡ pairs_in bytes → MatchResult r (λ l. PairsLaid bytes l.items) (λ f. PairsBreak bytes f)
+pairs_told bytes (Ok l) e = pairs_laid bytes l.items (sym e)
 pairs_told bytes (Err f) e = pairs_break bytes f (sym e)

@@ -44,7 +44,7 @@ EachErrorFits r (s ∷ ss) = ((s < r.states) × (error_at r s ≡ false)) × Eac
 way-number : (w : ℕ) → declared (way_from w) ≡ true → number (way_from w) ≡ w
 way-number w d = grind (arith, nat_tests)
 
-number-way : (w : Way) → declared w ≡ true → way_from (number w) ≡ w
+pub number-way : (w : Way) → declared w ≡ true → way_from (number w) ≡ w
 number-way w d = grind arith
 
 -- nothing follows the end
@@ -66,7 +66,7 @@ late_errors r at kind body rest h = rw (le-leb 3 kind (omega arith), le-leb 4 ki
 abbrev pub ErrorsTold : Records → Row → Row → Type 0
 ErrorsTold rs r r' = (es : List ℕ) × (rs ≡ telling 4 error_body es closing) × EachErrorFits r es × (r' ≡ all_errors r es)
 
-errors_told : (rs : Records) (r : Row) (at : ℕ) (r' : Row) → follow r Errors at rs ≡ Ok r' → ErrorsTold rs r r'
+pub errors_told : (rs : Records) (r : Row) (at : ℕ) (r' : Row) → follow r Errors at rs ≡ Ok r' → ErrorsTold rs r r'
 unfolding follow
 errors_told (next kind body rest) r at r' p =
     let (t, e, further) = first r Errors at kind body rest r' p in
@@ -96,7 +96,7 @@ no_step kind body rest r at r' h p =
     let f = errors_told (next kind body rest) r at r' (sym (late_errors r at kind body rest h) ∙ p) in
     ([], f.0, f.1, tt, f.2, f.3)
 
-steps_told : (rs : Records) (r : Row) (at : ℕ) (r' : Row) → follow r Steps at rs ≡ Ok r' → StepsTold rs r r'
+pub steps_told : (rs : Records) (r : Row) (at : ℕ) (r' : Row) → follow r Steps at rs ≡ Ok r' → StepsTold rs r r'
 unfolding follow
 steps_told (next kind body rest) r at r' p =
     let (t, e, further) = first r Steps at kind body rest r' p in
@@ -124,7 +124,7 @@ no_action kind body rest r at r' h p =
     let f = steps_told (next kind body rest) r at r' (sym (late_steps r at kind body rest h) ∙ p) in
     ([], f.0, f.1, f.2, tt, f.3, f.4, f.5)
 
-actions_told : (rs : Records) (r : Row) (at : ℕ) (r' : Row) → follow r Actions at rs ≡ Ok r' → ActionsTold rs r r'
+pub actions_told : (rs : Records) (r : Row) (at : ℕ) (r' : Row) → follow r Actions at rs ≡ Ok r' → ActionsTold rs r r'
 unfolding follow
 actions_told (next kind body rest) r at r' p =
     let (t, e, further) = first r Actions at kind body rest r' p in
@@ -165,14 +165,14 @@ pub follow_closing : (r : Row) (stage : Stage) (at : ℕ) → closed stage ≡ f
 unfolding follow
 follow_closing r stage at going d = rw (going, d)
 
-follow_errors : (es : List ℕ) (r : Row) (stage : Stage) (at : ℕ) → closed stage ≡ false → due stage 4 ≡ true → due stage 5 ≡ true → EachErrorFits r es → follow r stage at (telling 4 error_body es closing) ≡ Ok (all_errors r es)
+pub follow_errors : (es : List ℕ) (r : Row) (stage : Stage) (at : ℕ) → closed stage ≡ false → due stage 4 ≡ true → due stage 5 ≡ true → EachErrorFits r es → follow r stage at (telling 4 error_body es closing) ≡ Ok (all_errors r es)
 follow_errors [] r stage at going d4 d5 fit = follow_closing r stage at going d5
 follow_errors (s ∷ es) r stage at going d4 d5 fit =
     let in_turn : entered r stage at 4 (s ∷ []) ≡ Ok (with_error r s, Errors) = rw (d4, lt-ltb s r.states fit.0.0, fit.0.1) in
     follow_more r stage at 4 (s ∷ []) (telling 4 error_body es closing) (with_error r s, Errors) going in_turn
     ∙ follow_errors es (with_error r s) Errors (at + size_of (s ∷ [])) refl refl refl fit.1
 
-follow_steps : (ss : List Step) (es : List ℕ) (r : Row) (stage : Stage) (at : ℕ) → closed stage ≡ false → due stage 3 ≡ true → due stage 4 ≡ true → due stage 5 ≡ true → EachStepFits r ss → EachErrorFits (all_steps r ss) es
+pub follow_steps : (ss : List Step) (es : List ℕ) (r : Row) (stage : Stage) (at : ℕ) → closed stage ≡ false → due stage 3 ≡ true → due stage 4 ≡ true → due stage 5 ≡ true → EachStepFits r ss → EachErrorFits (all_steps r ss) es
     → follow r stage at (telling 3 step_body ss (telling 4 error_body es closing)) ≡ Ok (all_errors (all_steps r ss) es)
 follow_steps [] es r stage at going d3 d4 d5 fit fite = follow_errors es r stage at going d4 d5 fite
 follow_steps (s ∷ ss) es r stage at going d3 d4 d5 fit fite =
@@ -180,7 +180,7 @@ follow_steps (s ∷ ss) es r stage at going d3 d4 d5 fit fite =
     follow_more r stage at 3 (step_body s) (telling 3 step_body ss (telling 4 error_body es closing)) (with_step r s, Steps) going in_turn
     ∙ follow_steps ss es (with_step r s) Steps (at + size_of (step_body s)) refl refl refl refl fit.1 fite
 
-follow_actions : («as» : List Action) (ss : List Step) (es : List ℕ) (r : Row) (at : ℕ) → WaysFit r «as» → EachStepFits (all_ways r «as») ss → EachErrorFits (all_steps (all_ways r «as») ss) es
+pub follow_actions : («as» : List Action) (ss : List Step) (es : List ℕ) (r : Row) (at : ℕ) → WaysFit r «as» → EachStepFits (all_ways r «as») ss → EachErrorFits (all_steps (all_ways r «as») ss) es
     → follow r Actions at (telling 2 action_body «as» (telling 3 step_body ss (telling 4 error_body es closing))) ≡ Ok (all_errors (all_steps (all_ways r «as») ss) es)
 follow_actions [] ss es r at fit fits fite = follow_steps ss es r Actions at refl refl refl refl fits fite
 follow_actions (a ∷ more) ss es r at fit fits fite =

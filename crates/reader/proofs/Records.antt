@@ -8,7 +8,7 @@ use Rattle.reader.specs.Record.{bodied, front, before, up_to, records, none, cut
 bodied_shorter : (n kind : ℕ) (bytes : List ℕ) (t : ℕ × List ℕ × List ℕ) → bodied n kind bytes ≡ Some t → length t.1 + length t.2 ≡ length bytes
 bodied_shorter n kind bytes t e = grind (arith, nat_tests, length-take {A = ℕ}, length-drop {A = ℕ})
 
-front_shorter : (bytes : List ℕ) (t : ℕ × List ℕ × List ℕ) → front bytes ≡ Some t → 4 + (length t.1 + length t.2) ≡ length bytes
+pub front_shorter : (bytes : List ℕ) (t : ℕ × List ℕ × List ℕ) → front bytes ≡ Some t → 4 + (length t.1 + length t.2) ≡ length bytes
 front_shorter (a ∷ b ∷ c ∷ d ∷ bytes) t e = let h = bodied_shorter (a + b * 256) (c + d * 256) bytes t e in omega arith
 front_shorter bytes t e = cc
 

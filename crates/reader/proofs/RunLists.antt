@@ -105,6 +105,6 @@ laid_run bytes ending ms (e, i, moves, is, told, ts, few) = go (front bytes) ref
         rw (kind_is, body_is) (grind (arith, nat_tests))
 
 -- what an answer says of the bytes
-pub run_told : (bytes : List ℕ) (r : Result Run EvidenceFault) → outcome r ≡ run_in bytes → MatchResult r (λ run. RunLaid bytes run.ending run.moves) (λ f. RunBreaks bytes f)
-run_told bytes (Ok run) e = run_laid bytes run.ending run.moves (sym e)
+pub run_told : (bytes : List ℕ) (r : Result Run EvidenceFault) → outcome r ≡ run_in bytes → MatchResult r (λ run. RunLaid bytes run.ending run.moves.items) (λ f. RunBreaks bytes f)
+run_told bytes (Ok run) e = run_laid bytes run.ending run.moves.items (sym e)
 run_told bytes (Err f) e = run_breaks bytes f (sym e)

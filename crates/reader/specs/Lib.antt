@@ -7,6 +7,7 @@ pub mod Draft
 pub mod Table
 pub mod EvidenceFault
 pub mod Number
+pub mod Listing
 pub mod Pairs
 pub mod Run
 pub mod Layout

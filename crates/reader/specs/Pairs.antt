@@ -1,11 +1,13 @@
 -- pair_of at kind body    the pair of the record that stands at an offset, or its fault
 -- gather ps at rs         the pairs ps, and those of the records rs from an offset on, or the first fault
 -- pairs_in bytes          the pairs that some bytes list, or their first fault
+-- outcome r               what a reader answered: the things listed, or the fault
 use Rattle.std.specs.Prelude.{ℕ, ◌+◌, cond, List, [], ◌∷◌, ◌++◌, length, take, drop, Ok, Err, Result, ◌==◌, nat_lt}
 use Rattle.reader.specs.declared.fault.Fault.{Fault}
 use Rattle.reader.specs.declared.fault.Fault.TheVariants.{Cut, Kind, Length}
 use Rattle.reader.specs.declared.evidence.EvidenceFault as faults
 use Rattle.reader.specs.declared.evidence.EvidenceFault.TheVariants.{Record, Pairs}
+use Rattle.reader.specs.declared.listing.Listing.{Listing}
 use Rattle.reader.specs.declared.pair.Pair.{Pair}
 use Rattle.reader.specs.Number.{little}
 use Rattle.reader.specs.Record.{Records, none, cut, next, records, size_of}
@@ -35,3 +37,7 @@ gather ps at (next kind body rest) =
 
 unfoldable pub pairs_in : List ℕ → Result (List Pair) faults.EvidenceFault
 pairs_in bytes = gather [] 0 (records bytes)
+
+abbrev pub outcome : Result (Listing Pair) faults.EvidenceFault → Result (List Pair) faults.EvidenceFault
+outcome (Ok l) = Ok l.items
+outcome (Err f) = Err f

@@ -56,5 +56,5 @@ unfoldable pub run_in : List ℕ → Result Told EvidenceFault
 run_in bytes = recorded (front bytes)
 
 abbrev pub outcome : Result code.Run EvidenceFault → Result Told EvidenceFault
-outcome (Ok run) = Ok (run.ending, run.moves)
+outcome (Ok run) = Ok (run.ending, run.moves.items)
 outcome (Err f) = Err f

@@ -3,13 +3,15 @@ ghost use Rattle.std.specs.Prelude.{◌≡◌, ◌≤◌, [], ◌∷◌, ◌++�
 
 use std::marker::Model;
 
-// The first `count` places hold what was listed, in its order. A contract sees the things that are listed. The places
-// are an array, since reading takes no memory from the heap, and so never fails for want of it; and no crate is
-// taken in for them, since its statements would be trusted anew.
+// The first `count` places hold what was listed, in its order. A contract sees the things that are listed, `items`, and
+// that there are at most 4,096, `few`, of every listing and with no call. The places are an array, since reading takes
+// no memory from the heap, and so never fails for want of it; and no crate is taken in for them, since its statements
+// would be trusted anew.
 #[derive(Drop)]
 pub struct Listing<T> {
     places: [T; 4096],
     count: usize,
+    ghost few: { length (take count places) ≤ 4096 },
 }
 
 // A listing has no place left.
@@ -17,9 +19,14 @@ pub struct Listing<T> {
 pub struct Full;
 
 impl<T> Model for Listing<T> {
-    ghost Value = { List T };
+    ghost use Rattle.std.specs.Prelude.{◌≡◌, ◌≤◌, length, take};
+    ghost use Rattle.reader.specs.Listing.{Listed, listed_code};
 
-    ghost view = { λ l. take l.count l.places };
+    ghost Value = { Listed T };
+
+    ghost coded = { listed_code T.code };
+
+    ghost view = { λ l. record { items = take l.count l.places; few = l.few } };
 
     ghost invariant = { λ l. (length l.places ≡ 4096) × (l.count ≤ 4096) };
 }
@@ -27,7 +34,7 @@ impl<T> Model for Listing<T> {
 impl<T: Copy> Listing<T> {
     // An empty list; `filler` stands in the places that are not used.
     pub fn new(filler: T) -> Listing<T>
-        ensures { result ≡ [] }
+        ensures { result.items ≡ [] }
     {
         Listing {
             places: [filler; 4096],
@@ -37,8 +44,8 @@ impl<T: Copy> Listing<T> {
 
     // What is listed, in its order.
     pub fn as_slice(&self) -> &[T]
-        ensures items { result.now ≡ self.now }
-        ensures few { length self.now ≤ 4096 }
+        ensures items { result.now ≡ self.now.items }
+        ensures few { length self.now.items ≤ 4096 }
     {
         let all = &self.places[..];
         &all[0..self.count]
@@ -46,24 +53,24 @@ impl<T: Copy> Listing<T> {
 
     // How many things are listed.
     pub fn len(&self) -> usize
-        ensures count { result ≡ length self.now }
-        ensures few { length self.now ≤ 4096 }
+        ensures count { result ≡ length self.now.items }
+        ensures few { length self.now.items ≤ 4096 }
     {
         self.as_slice().len()
     }
 
     // Whether 4,096 things are listed.
     pub fn is_full(&self) -> bool
-        ensures full { result ≡ not (nat_lt (length self.now) 4096) }
-        ensures few { length self.now ≤ 4096 }
+        ensures full { result ≡ not (nat_lt (length self.now.items) 4096) }
+        ensures few { length self.now.items ≤ 4096 }
     {
         self.len() >= 4096
     }
 
     // Lists one thing more; where 4,096 are listed it is refused, and nothing changes.
     pub fn push(&mut self, item: T) -> Result<(), Full>
-        ensures room { is_ok result ≡ nat_lt (length self.old) 4096 }
-        ensures listed { OnOk result (self.new ≡ self.old ++ item ∷ []) }
+        ensures room { is_ok result ≡ nat_lt (length self.old.items) 4096 }
+        ensures listed { OnOk result (self.new.items ≡ self.old.items ++ item ∷ []) }
         ensures full { OnErr result (self.new ≡ self.old) }
     {
         if self.is_full() {

@@ -2,7 +2,7 @@
 ghost use Rattle.std.specs.Prelude.{◌≡◌, ◌≤◌, List, length, Ok, MatchResult};
 ghost use Rattle.reader.specs.Evidence.{PairsLaid, PairsBreak};
 ghost use Rattle.reader.specs.Number.{little as little_of};
-ghost use Rattle.reader.specs.Pairs.{pair_of, pair_sized, pairs_in};
+ghost use Rattle.reader.specs.Pairs.{pair_of, pair_sized, pairs_in, outcome};
 
 use crate::evidence::EvidenceFault;
 use crate::fault::Fault;
@@ -21,9 +21,9 @@ pub struct Pair {
 // The pairs that some bytes list, at most 4,096, or the first fault. It succeeds exactly on the bytes whose
 // records tell pairs, and a fault points at the first record that tells none.
 pub fn read_pairs(bytes: &[u8]) -> Result<Listing<Pair>, EvidenceFault>
-    ensures outcome { result ≡ pairs_in bytes.now }
-    ensures told { MatchResult result (λ l. PairsLaid bytes.now l) (λ f. PairsBreak bytes.now f) }
-    ensures reads { (ps : List Pair) → PairsLaid bytes.now ps → result ≡ Ok ps }
+    ensures outcome { outcome result ≡ pairs_in bytes.now }
+    ensures told { MatchResult result (λ l. PairsLaid bytes.now l.items) (λ f. PairsBreak bytes.now f) }
+    ensures reads { (ps : List Pair) → PairsLaid bytes.now ps → outcome result ≡ Ok ps }
 {
     let mut pairs = Listing::new(Pair { state: 0, set: 0 });
     let mut unread = Unread::of(bytes);
@@ -63,14 +63,12 @@ fn read_sized<const N: usize>(placed: &Placed<'_>) -> Result<Pair, Fault>
     })
 }
 
-// The number that some bytes spell, the lowest byte first. Copying them into eight bytes for `from_le_bytes` was tried,
-// and left the check a goal.
+// The number that some bytes spell, the lowest byte first. Behind the highest stand zeros, which add nothing.
 fn little(bytes: &[u8]) -> u64
     requires { length bytes.now ≤ 8 }
     ensures { result ≡ little_of bytes.now }
 {
-    match bytes {
-        [] => 0,
-        [low, high @ ..] => u64::from(*low) + 256 * little(high),
-    }
+    let mut all = [0; 8];
+    all[..bytes.len()].copy_from_slice(bytes);
+    u64::from_le_bytes(all)
 }

@@ -40,7 +40,7 @@ pub struct Run {
 // and a fault names what keeps them from being one.
 pub fn read_run(bytes: &[u8]) -> Result<Run, EvidenceFault>
     ensures outcome { outcome result ≡ run_in bytes.now }
-    ensures told { MatchResult result (λ run. RunLaid bytes.now run.ending run.moves) (λ f. RunBreaks bytes.now f) }
+    ensures told { MatchResult result (λ run. RunLaid bytes.now run.ending run.moves.items) (λ f. RunBreaks bytes.now f) }
     ensures reads { (e : Ending) (ms : List Move) → RunLaid bytes.now e ms → outcome result ≡ Ok (e, ms) }
 {
     let mut unread = Unread::of(bytes);
@@ -99,7 +99,7 @@ fn read_ending(ending: u8, input: u8) -> Option<Ending>
 // The moves that some bytes tell.
 fn read_moves(bytes: &[u8]) -> Listing<Move>
     requires { length bytes.now ≤ 3 * 4096 }
-    ensures { result ≡ moves_in bytes.now }
+    ensures { result.items ≡ moves_in bytes.now }
 {
     let mut moves = Listing::new(Move {
         action: 0,

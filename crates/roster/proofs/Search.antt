@@ -1,12 +1,12 @@
 -- Search among the numbers below a bound: what `any` and `lowest` find, and what a chain over these numbers finds.
-use Rattle.std.proofs.Common.{◌≡◌, ℕ, zero, suc, ◌<◌, ◌≤◌, Bool, true, false, cond, List, get_or, Some, None, Option, MatchOption, refl, ap, sym, ◌∙◌, inl, inr, arith}
+use Rattle.std.proofs.Common.{◌≡◌, ℕ, zero, suc, ◌+◌, ◌<◌, ◌≤◌, Bool, true, false, cond, List, get_or, Some, None, Option, MatchOption, refl, ap, sym, ◌∙◌, inl, inr, add-one, arith}
 use Rattle.std.specs.Bool.{⊤}
 use Rattle.std.specs.Fn.{Called, CalledAt}
 use Rattle.std.specs.Iterator.{YieldsThen}
 use Rattle.std.specs.List.{list_any, range_with_len, FoldsTo}
 use Rattle.std.specs.declared.ops.Range.{Range}
 use Rattle.std.proofs.iter.Yields.{nat_range_steps}
-use Rattle.std.proofs.lemmas.Bool.{false_from_ne_true, or_parts, cases_eq, cond-true, cond-false, false≢true}
+use Rattle.std.proofs.lemmas.Bool.{both_ways, false_from_ne_true, or_from, or_parts, cases_eq, cond-true, cond-false, false≢true}
 use Rattle.std.proofs.lemmas.List.FromFn.{length-range_with_len, get_or-range_with_len}
 use Rattle.std.proofs.lemmas.List.Recursion.{or_is}
 use Rattle.std.proofs.lemmas.Iterator.{YieldsList-from_range, first_from_Range}
@@ -25,6 +25,20 @@ any_beyond f n m h k =
     same_test (any f m) (any f n)
     (λ t. let (x, i, s) = any_view f m t in any_make f n x (k x s) s)
     (λ t. let (x, i, s) = any_view f n t in any_make f m x (omega arith) s)
+
+-- one number more that does not pass; fewer numbers; and another test that passes the same numbers
+pub any_more : (f : ℕ → Bool) (i : ℕ) → any f i ≡ false → f i ≡ false → any f (i + 1) ≡ false
+unfolding any
+any_more f i was new = rw add-one (or_from (f i) (any f i) new was)
+
+pub any_lower : (f : ℕ → Bool) (n m : ℕ) → n ≤ m → any f m ≡ false → any f n ≡ false
+any_lower f n m h none = false_from_ne_true _ (λ t. let (x, i, s) = any_view f n t in both_ways (any f m) none (any_make f m x (omega arith) s))
+
+pub any_same : (f g : ℕ → Bool) (n : ℕ) → ((x : ℕ) → f x ≡ g x) → any f n ≡ any g n
+any_same f g n h =
+    same_test (any f n) (any g n)
+    (λ t. let (x, i, s) = any_view f n t in any_make g n x i (sym (h x) ∙ s))
+    (λ t. let (x, i, s) = any_view g n t in any_make f n x i (h x ∙ s))
 
 pub accepts_is : (e : System) (p x : ℕ) → accepts e p x ≡ has_step e p x
 unfolding accepts
@@ -48,14 +62,14 @@ any_range f n u j r ran calls = any_from_yields_List f u j r ran (YieldsList-fro
 
 -- ---- the lowest
 
-lowest_none : (f : ℕ → Bool) (n : ℕ) → any f n ≡ false → lowest f n ≡ None
+pub lowest_none : (f : ℕ → Bool) (n : ℕ) → any f n ≡ false → lowest f n ≡ None
 unfolding lowest any
 lowest_none f zero e = refl
 lowest_none f (suc n) e =
     let (here, below) = or_parts (f n) (any f n) e in
     cond-false (any f n) (lowest f n) (cond (f n) (Some n) None) below ∙ cond-false (f n) (Some n) None here
 
-lowest_here : (f : ℕ → Bool) (n i : ℕ) → i < n → any f i ≡ false → f i ≡ true → lowest f n ≡ Some i
+pub lowest_here : (f : ℕ → Bool) (n i : ℕ) → i < n → any f i ≡ false → f i ≡ true → lowest f n ≡ Some i
 unfolding lowest
 lowest_here f zero i h was t = absurd (omega arith)
 lowest_here f (suc n) i h was t =

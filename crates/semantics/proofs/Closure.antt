@@ -54,7 +54,7 @@ pub data Steps (R : ℕ → ℕ → Bool) : ℕ → ℕ → Type 0 where
   stay : {p : ℕ} → Steps R p p
   go_on : {p q r : ℕ} → R p q ≡ true → Steps R q r → Steps R p r
 
-one_more : {R : ℕ → ℕ → Bool} {p q r : ℕ} → Steps R p q → R q r ≡ true → Steps R p r
+pub one_more : {R : ℕ → ℕ → Bool} {p q r : ℕ} → Steps R p q → R q r ≡ true → Steps R p r
 one_more stay s = go_on s stay
 one_more (go_on t u) s = go_on t (one_more u s)
 

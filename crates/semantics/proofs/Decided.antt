@@ -14,11 +14,11 @@ use Rattle.semantics.proofs.Runs.{runs_append, runs_letter, runs_in, runs_from, 
 use Rattle.semantics.proofs.Errors.{Cause, cause, error_trace}
 use Rattle.semantics.proofs.Closure.{meets_view, meets_make, Steps, stay, go_on, Inside, closure_view, closure_on, closure_has}
 
-only_view : (p q : ℕ) → only p q ≡ true → p ≡ q
+pub only_view : (p q : ℕ) → only p q ≡ true → p ≡ q
 unfolding only
 only_view p q h = eqb-true p q h
 
-only_make : (p : ℕ) → only p p ≡ true
+pub only_make : (p : ℕ) → only p p ≡ true
 unfolding only
 only_make p = eq-eqb p p refl
 
@@ -26,7 +26,7 @@ only_make p = eq-eqb p p refl
 abbrev pub Stays : System → (ℕ → Bool) → Type 0
 Stays e X = (p q : ℕ) → X p ≡ true → e.step p 0 q ≡ true → X q ≡ true
 
-stays_run : {e : System} (X : ℕ → Bool) → Stays e X → {p q : ℕ} → X p ≡ true → Runs e p [] q → X q ≡ true
+pub stays_run : {e : System} (X : ℕ → Bool) → Stays e X → {p q : ℕ} → X p ≡ true → Runs e p [] q → X q ≡ true
 stays_run X f x here = x
 stays_run X f x (quiet {p = p} {q = q} s t) = stays_run X f (f p q x s) t
 
@@ -44,47 +44,47 @@ module _ {e : System} (wf : WellFormed e) where
   runs_steps here = stay
   runs_steps (quiet s t) = go_on s (runs_steps t)
 
-  reach_view : (X : ℕ → Bool) (q : ℕ) → reach e X q ≡ true → (p : ℕ) × (X p ≡ true) × Runs e p [] q
+  pub reach_view : (X : ℕ → Bool) (q : ℕ) → reach e X q ≡ true → (p : ℕ) × (X p ≡ true) × Runs e p [] q
   unfolding reach
   reach_view X q h = let (p, x, t) = closure_view (λ p q. e.step p 0 q) e.states X q h in (p, x, steps_runs t)
 
-  reach_make : (X : ℕ → Bool) {p q : ℕ} → X p ≡ true → Runs e p [] q → reach e X q ≡ true
+  pub reach_make : (X : ℕ → Bool) {p q : ℕ} → X p ≡ true → Runs e p [] q → reach e X q ≡ true
   unfolding reach
   reach_make X {p} x t =
       closure_on (λ p q. e.step p 0 q) e.states quiet_inside X (closure_has (λ p q. e.step p 0 q) e.states X p x) (runs_steps t)
 
-  reach_stays : (X : ℕ → Bool) → Stays e (reach e X)
+  pub reach_stays : (X : ℕ → Bool) → Stays e (reach e X)
   reach_stays X p q h s = let (k, x, t) = reach_view X p h in reach_make X x (runs_append t (quiet s here))
 
   -- ---- one letter
 
-  moved_view : (X : ℕ → Bool) (a q : ℕ) → moved e X a q ≡ true → (p : ℕ) × (X p ≡ true) × (e.step p a q ≡ true)
+  pub moved_view : (X : ℕ → Bool) (a q : ℕ) → moved e X a q ≡ true → (p : ℕ) × (X p ≡ true) × (e.step p a q ≡ true)
   unfolding moved
   moved_view X a q h = let (p, i, x, s) = meets_view e.states X (λ p. e.step p a q) h in (p, x, s)
 
-  moved_make : (X : ℕ → Bool) {a p q : ℕ} → X p ≡ true → e.step p a q ≡ true → moved e X a q ≡ true
+  pub moved_make : (X : ℕ → Bool) {a p q : ℕ} → X p ≡ true → e.step p a q ≡ true → moved e X a q ≡ true
   unfolding moved
   moved_make X {a} {p} {q} x s = meets_make e.states X (λ p. e.step p a q) (wf.from_in p a q s) x s
 
-  next_view : (X : ℕ → Bool) (a q : ℕ) → a ≢ 0 → next e X a q ≡ true → (p : ℕ) × (X p ≡ true) × Runs e p (a ∷ []) q
+  pub next_view : (X : ℕ → Bool) (a q : ℕ) → a ≢ 0 → next e X a q ≡ true → (p : ℕ) × (X p ≡ true) × Runs e p (a ∷ []) q
   unfolding next
   next_view X a q n h =
       let (m, y, t) = reach_view (moved e X a) q h in
       let (p, x, s) = moved_view X a m y in
       (p, x, letter a n s t)
 
-  next_make : (X : ℕ → Bool) → Stays e X → {a p q : ℕ} → X p ≡ true → Runs e p (a ∷ []) q → next e X a q ≡ true
+  pub next_make : (X : ℕ → Bool) → Stays e X → {a p q : ℕ} → X p ≡ true → Runs e p (a ∷ []) q → next e X a q ≡ true
   unfolding next
   next_make X f {a} x t =
       let (k, m, r, n, s, u) = runs_letter t in
       reach_make (moved e X a) (moved_make X (stays_run X f x r) s) u
 
-  next_stays : (X : ℕ → Bool) (a : ℕ) → Stays e (next e X a)
+  pub next_stays : (X : ℕ → Bool) (a : ℕ) → Stays e (next e X a)
   unfolding next
   next_stays X a = reach_stays (moved e X a)
 
   -- the first letter of a run
-  next_enters : (X : ℕ → Bool) → Stays e X → {a p q : ℕ} {u : List ℕ} → X p ≡ true → Runs e p (a ∷ u) q
+  pub next_enters : (X : ℕ → Bool) → Stays e X → {a p q : ℕ} {u : List ℕ} → X p ≡ true → Runs e p (a ∷ u) q
       → (m : ℕ) × (next e X a m ≡ true) × Runs e m u q
   next_enters X f {a} x t =
       let (k, m, r, n, s, v) = runs_letter t in
@@ -133,7 +133,7 @@ module _ {e : System} (wf : WellFormed e) where
   illegal_steps stay h = h
   illegal_steps (go_on {p = p} {q = q} s t) h = illegal_steps t (illegal_local q p s h)
 
-  illegal_view : (p : ℕ) → illegal e p ≡ true → Illegal e p
+  pub illegal_view : (p : ℕ) → illegal e p ≡ true → Illegal e p
   unfolding illegal
   illegal_view p h =
       let (q, bad, t) = closure_view (λ q p. local e p q) e.states e.error p h in
@@ -152,7 +152,7 @@ module _ {e : System} (wf : WellFormed e) where
   illegal_run (quiet {p = p} {q = q} s t) outs bad = illegal_test_before p q (local_quiet p q s) (illegal_run t outs bad)
   illegal_run (letter {p = p} {q = q} a n s t) outs bad = illegal_test_before p q (local_output p a q outs.0 s) (illegal_run t outs.1 bad)
 
-  illegal_make : (p : ℕ) → Illegal e p → illegal e p ≡ true
+  pub illegal_make : (p : ℕ) → Illegal e p → illegal e p ≡ true
   illegal_make p (o, q, t, outs, bad) = illegal_run t outs bad
 
   illegal_in : (p : ℕ) → Illegal e p → p < e.states
@@ -160,27 +160,27 @@ module _ {e : System} (wf : WellFormed e) where
 
   -- ---- tests on sets
 
-  fails_view : (X : ℕ → Bool) → fails e X ≡ true → (q : ℕ) × (X q ≡ true) × Illegal e q
+  pub fails_view : (X : ℕ → Bool) → fails e X ≡ true → (q : ℕ) × (X q ≡ true) × Illegal e q
   unfolding fails
   fails_view X h = let (q, i, x, y) = meets_view e.states X (illegal e) h in (q, x, illegal_view q y)
 
-  fails_make : (X : ℕ → Bool) {q : ℕ} → X q ≡ true → Illegal e q → fails e X ≡ true
+  pub fails_make : (X : ℕ → Bool) {q : ℕ} → X q ≡ true → Illegal e q → fails e X ≡ true
   unfolding fails
   fails_make X {q} x h = meets_make e.states X (illegal e) (illegal_in q h) x (illegal_make q h)
 
-  misses_view : (X : ℕ → Bool) (a : ℕ) → misses e X a ≡ true → (q : ℕ) × (X q ≡ true) × (accepts e q a ≡ false)
+  pub misses_view : (X : ℕ → Bool) (a : ℕ) → misses e X a ≡ true → (q : ℕ) × (X q ≡ true) × (accepts e q a ≡ false)
   unfolding misses
   misses_view X a h =
       let (q, i, x, k) = meets_view e.states X (λ q. not (accepts e q a)) h in
       (q, x, not-true (accepts e q a) k)
 
-  misses_make : (X : ℕ → Bool) (a : ℕ) {q : ℕ} → q < e.states → X q ≡ true → accepts e q a ≡ false → misses e X a ≡ true
+  pub misses_make : (X : ℕ → Bool) (a : ℕ) {q : ℕ} → q < e.states → X q ≡ true → accepts e q a ≡ false → misses e X a ≡ true
   unfolding misses
   misses_make X a {q} i x k = meets_make e.states X (λ q. not (accepts e q a)) i x (not_from_false (accepts e q a) k)
 
   -- ---- along a word
 
-  walk_view : (X : ℕ → Bool) (w : List ℕ) (q : ℕ) → Word e w → walk e X w q ≡ true → (p : ℕ) × (X p ≡ true) × Runs e p w q
+  pub walk_view : (X : ℕ → Bool) (w : List ℕ) (q : ℕ) → Word e w → walk e X w q ≡ true → (p : ℕ) × (X p ≡ true) × Runs e p w q
   unfolding walk
   walk_view X [] q h x = (q, x, here)
   walk_view X (a ∷ w) q h k =
@@ -188,7 +188,7 @@ module _ {e : System} (wf : WellFormed e) where
       let (p, x, r) = next_view X a m (present_nonzero wf h.0) y in
       (p, x, runs_append r t)
 
-  walk_make : (X : ℕ → Bool) (w : List ℕ) → Stays e X → {p q : ℕ} → X p ≡ true → Runs e p w q → walk e X w q ≡ true
+  pub walk_make : (X : ℕ → Bool) (w : List ℕ) → Stays e X → {p q : ℕ} → X p ≡ true → Runs e p w q → walk e X w q ≡ true
   unfolding walk
   walk_make X [] f x t = stays_run X f x t
   walk_make X (a ∷ w) f x t =
@@ -262,12 +262,12 @@ module _ {e : System} (wf : WellFormed e) where
 
 -- ---- words
 
-word_view : (e : System) (w : List ℕ) → is_word e w ≡ true → Word e w
+pub word_view : (e : System) (w : List ℕ) → is_word e w ≡ true → Word e w
 unfolding is_word
 word_view e [] h = tt
 word_view e (a ∷ w) h = grind (arith, present_view (e.way a), word_view e w)
 
-word_make : (e : System) (w : List ℕ) → Word e w → is_word e w ≡ true
+pub word_make : (e : System) (w : List ℕ) → Word e w → is_word e w ≡ true
 unfolding is_word
 word_make e [] h = refl
 word_make e (a ∷ w) h = rw (present_make (e.way a) h.0, word_make e w h.1)
@@ -293,7 +293,7 @@ module _ (e : System) (wf : WellFormed e) where
   unfolding opening
   opening_stays = reach_stays wf (only e.start)
 
-  after_view : (w : List ℕ) (q : ℕ) → Word e w → after e w q ≡ true → After e w q
+  pub after_view : (w : List ℕ) (q : ℕ) → Word e w → after e w q ≡ true → After e w q
   unfolding after opening
   after_view w q k h = let (p, x, t) = walk_view wf opening w q k h in runs_append (opening_view x) t
 

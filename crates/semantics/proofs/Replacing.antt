@@ -23,17 +23,17 @@ sent h is = grind arith
 
 module _ {b c f : System} {enc : ℕ → ℕ → ℕ} {one two : ℕ → ℕ} (wfb : WellFormed b) (wfc : WellFormed c) (apart : Composable b c)
     (J : Implements f b c enc one two) where
-  together : {u w : List ℕ} {p r : ℕ} → Part b.way c c.start u w r → After b u p → After f w (enc p r)
+  pub together : {u w : List ℕ} {p r : ℕ} → Part b.way c c.start u w r → After b u p → After f w (enc p r)
   together {u} {w} {p} {r} m t = rw J.start_is at (recompose wfb wfc J m wfb.start_in wfc.start_in t)
 
-  after_in : {u : List ℕ} {p : ℕ} → After b u p → p < b.states
+  pub after_in : {u : List ℕ} {p : ℕ} → After b u p → p < b.states
   after_in t = runs_in wfb wfb.start_in t
 
-  part_end : {u w : List ℕ} {r : ℕ} → Part b.way c c.start u w r → r < c.states
+  pub part_end : {u w : List ℕ} {r : ℕ} → Part b.way c c.start u w r → r < c.states
   part_end m = part_in wfc wfc.start_in m
 
   -- what makes a word of b an error trace, with the part of c, makes that of the pair one
-  carry : (u w : List ℕ) {r : ℕ} → Cause b u → Part b.way c c.start u w r → Cause f w
+  pub carry : (u w : List ℕ) {r : ℕ} → Cause b u → Part b.way c c.start u w r → Cause f w
   carry u w (inl (v, p, pre, t, (o, p', s, outs, bad))) m =
       let (q, w', m', pre') = part_front v m pre in
       inl (w', enc p q, pre', together m' t, runs_away wfb wfc J apart s (after_in t) (part_end m') outs bad)
@@ -141,11 +141,11 @@ module _ {a b c e f : System} {enc : ℕ → ℕ → ℕ} {one two : ℕ → ℕ
 
 -- ---- the theorems
 
-composable_swap : {a c : System} → Composable a c → Composable c a
+pub composable_swap : {a c : System} → Composable a c → Composable c a
 composable_swap h = record { inputs = λ x i j. h.inputs x j i; outputs = λ x i j. h.outputs x j i }
 
 -- composability goes by ways
-composable_like : {a b c : System} → MayReplace a b → Composable a c → Composable b c
+pub composable_like : {a b c : System} → MayReplace a b → Composable a c → Composable b c
 composable_like R h = record { inputs = λ x i. h.inputs x (R.ways x ∙ i); outputs = λ x i. h.outputs x (R.ways x ∙ i) }
 
 pub coupling_preserves_replacement_lem : CouplingPreservesReplacement

@@ -5,6 +5,6 @@ use Rattle.reader.proofs.run.read_moves.Given as goal
 
 abbrev pub invariant-loop-chunk : goal.invariant-loop-chunk
 invariant-loop-chunk l =
-    (l.moves ++ moves_in (chunks_exact_rest l.chunk-iterator) ≡ moves_in l.bytes)
-    × (3 * length l.moves + length (chunks_exact_rest l.chunk-iterator) ≡ length l.bytes)
+    (l.moves.items ++ moves_in (chunks_exact_rest l.chunk-iterator) ≡ moves_in l.bytes)
+    × (3 * length l.moves.items + length (chunks_exact_rest l.chunk-iterator) ≡ length l.bytes)
     × (chunks_exact_size l.chunk-iterator ≡ 3)
