@@ -81,12 +81,16 @@ way_of-all_ways n (a ∷ xs) r len ok once =
       | inr ne ↦ rw (ne_eqb n a.action ne) (way_of-all_ways n xs r' (length-set r.ways (a.action - 1) a.way ∙ len) ok.1 once.1 ∙ ap (λ d. way_or d n xs) (way_other r a.action n a.way ok.0.0 ne))
     ]
 
+-- so a number with no way yet gets the way that they give it
+way_got : (k : ℕ) (xs : List Action) (r : Row) → length r.ways ≡ 32 → way_of r k ≡ Absent → AllByRecursion Sized xs → Once (λ a. a.action) xs → way_of (all_ways r xs) k ≡ way_in k xs
+way_got k xs r len absent ok once = way_of-all_ways k xs r len ok once ∙ ap (λ d. way_or d k xs) absent ∙ way_or-absent k xs
+
 -- the ways of no action at all
 way-blank : (n s k : ℕ) → way_of (blank n s) k ≡ Absent
 way-blank n s k = cond_both (leb 1 k && leb k 32) _ Absent (λ w. w ≡ Absent) (λ e. get_or_alike 32 (k - 1) Absent) (λ e. refl)
 
 pub ways_in : (n s k : ℕ) (xs : List Action) → AllByRecursion Sized xs → Once (λ a. a.action) xs → way_of (all_ways (blank n s) xs) k ≡ way_in k xs
-ways_in n s k xs ok once = way_of-all_ways k xs (blank n s) refl ok once ∙ ap (λ d. way_or d k xs) (way-blank n s k) ∙ way_or-absent k xs
+ways_in n s k xs ok once = way_got k xs (blank n s) refl (way-blank n s k) ok once
 
 pub fresh-blank : (n s : ℕ) (xs : List Action) → AllByRecursion (Fresh (blank n s)) xs
 fresh-blank n s xs = recursion_from_All (Fresh (blank n s)) xs (λ k d h. ap declared (way-blank n s (get_or xs k d).action))
